@@ -1,0 +1,67 @@
+// What Rust has as methods of f64, worked out by the program: bit patterns, magnitude, is finite, max.
+ghost use mathlib.Core.Path.{_≡_};
+ghost use lib.Ieee.Scale.{finite};
+ghost use Rattle.number.specs.Number.{patternOf, float, magnitudeOf, maxOf};
+
+// The bit pattern of x. A NaN has one pattern here: the language leaves its bits open.
+pub fn pattern(x: f64) -> u64
+    ensures { λ r. ⌜ r ≡ patternOf x ⌝ }
+{
+    if x != x {
+        return 0x7ff8_0000_0000_0000;
+    }
+    f64::to_bits(x)
+}
+
+// The number of a bit pattern, a NaN for each of a NaN's patterns.
+pub fn of_pattern(n: u64) -> f64
+    ensures { λ r. ⌜ r ≡ float n ⌝ }
+{
+    if n % 0x8000_0000_0000_0000 > 0x7ff0_0000_0000_0000 {
+        return 0.0 / 0.0;
+    }
+    f64::from_bits(n)
+}
+
+// Rust's `abs`.
+pub fn magnitude(x: f64) -> f64
+    ensures { λ r. ⌜ r ≡ magnitudeOf x ⌝ }
+{
+    if x < 0.0 {
+        return -x;
+    }
+    // clears the sign of -0, and leaves every other number as it is
+    if x == 0.0 {
+        return 0.0;
+    }
+    x
+}
+
+// Rust's `is_finite`: of an infinity or a NaN the difference is a NaN.
+pub fn is_finite(x: f64) -> bool
+    ensures { λ r. ⌜ r ≡ finite x ⌝ }
+{
+    x - x == 0.0
+}
+
+// Rust's `max`, with +0 for zeros of two signs, which Rust leaves open.
+pub fn max(x: f64, y: f64) -> f64
+    ensures { λ r. ⌜ r ≡ maxOf x y ⌝ }
+{
+    if x != x {
+        return y;
+    }
+    if y != y {
+        return x;
+    }
+    if x < y {
+        return y;
+    }
+    if y < x {
+        return x;
+    }
+    if x == 0.0 {
+        return x + y;
+    }
+    x
+}

@@ -1,0 +1,4 @@
+pub mod Negate
+pub mod Intervals
+pub mod Pattern
+pub mod Choose

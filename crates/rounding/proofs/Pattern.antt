@@ -1,0 +1,181 @@
+-- The number that a bit pattern of binary64 stands for, in units of 2 ^ -1074. Assumes nothing.
+use mathlib.Core.Path.{_≡_, refl, sym, ap, _∙_, subst}
+use mathlib.Core.Bool.{Bool, true, false, not, _&&_, cond, true≢false}
+use mathlib.Core.Logic.{_⊎_, inl, inr}
+use Prim.Native.Nat.{ℕ, zero, suc, _+_, _-_, _*_, _/_, _%_, _^_, _≤_, _<_}
+use native.Mathlib.Nat.{mul-one, mul-comm, mul-div-cancel, lt-irrefl, lt-of-lt-of-le, lt-of-le-of-lt, le-of-lt, ne-of-lt, eq-or-lt-of-le, le-of-suc-le-suc, mul-assoc, mul-pos, div-lt-iff-lt-mul, eq-zero-or-pos, le-trans, le-of-eq, mul-le-mul-right}
+use native.Mathlib.Omega.{arith}
+use borrow.Author.Tests.{lt-ltb, le-leb, lt-leb, ne-eqb, eq-eqb, leb-false}
+use lib.Dec.{T, ltb, leb, eqb, ltb→lt, leb→le, eqb→eq}
+use lib.IntN.{ℤ, pos, negsuc}
+use lib.Pow.{pow-pos, pow-add, pow-mono, shl-lt}
+use lib.Ieee.{Float, nan, inf, fin, binary64, up, down, odd, ofFields, ofBits, toBits, fits}
+use lib.Ieee.Fits.{up-pos, down-pos, and-l, and-r}
+use lib.Ieee.Bits.{ofBits-toBits}
+use lib.Ieee.Exact.{HasValue, odd-sign}
+use lib.Ieee.Positive.{positive}
+use Rattle.rounding.specs.Units.{inUnits}
+
+-- the exponent's field, and the digits
+abbrev pub unitsAt : ℕ → ℕ → ℕ
+unitsAt zero t = t
+unitsAt (suc k) t = (2 ^ 52 + t) * 2 ^ k
+
+pub fields-value : (s : Bool) (x t : ℕ) → x < 2047 → HasValue (ofFields binary64 s x t) s (unitsAt x t) (2 ^ 1074)
+unfolding ofFields
+fields-value s zero t h = subst (λ (a : ℕ). HasValue (odd 53 s t 0 1074) s a (2 ^ 1074)) (mul-one t) (odd-sign 53 s t 0 1074)
+fields-value s (suc x) t h = rw (ne-eqb (suc x) 2047 (ne-of-lt h)) (odd-sign 53 s (2 ^ 52 + t) x 1074)
+
+pub bits-value : (b : ℕ) → b < 0x7ff0_0000_0000_0000 → HasValue (ofBits binary64 b) false (unitsAt (b / 2 ^ 52) (b % 2 ^ 52)) (2 ^ 1074)
+unfolding ofBits
+bits-value b h = rw (lt-leb (2 ^ 63) b (small b h), rest b h) (fields-value false (b / 2 ^ 52) (b % 2 ^ 52) (field b h))
+  where
+    small : (b : ℕ) → b < 0x7ff0_0000_0000_0000 → b < 2 ^ 63
+    small b h = omega arith
+
+    rest : (b : ℕ) → b < 0x7ff0_0000_0000_0000 → b % 2 ^ 63 ≡ b
+    rest b h = omega arith
+
+    field : (b : ℕ) → b < 0x7ff0_0000_0000_0000 → b / 2 ^ 52 < 2047
+    field b h = omega arith
+
+pub units-of : (x : Float) (a : ℕ) → HasValue x false a (2 ^ 1074) → inUnits binary64 x ≡ a
+unfolding inUnits
+units-of nan a v = absurd v
+units-of (inf s) a v = absurd v
+units-of (fin s m e) a v = ap (λ (z : ℕ). z / down e) (v .1) ∙ mul-div-cancel a (down-pos e)
+
+-- which patterns a number above zero has
+sign-odd : (d : ℕ) (s : Bool) (q k l : ℕ) → T (positive (odd d s q k l)) → s ≡ false
+unfolding odd
+sign-odd d true zero k l p = absurd p
+sign-odd d true (suc q) k l p = absurd p
+sign-odd d false q k l p = refl
+
+positive-fields : (s : Bool) (x t : ℕ) → x < 2048 → T (positive (ofFields binary64 s x t)) → (s ≡ false) × (x < 2047)
+unfolding ofFields odd
+positive-fields true zero zero h p = absurd p
+positive-fields true zero (suc t) h p = absurd p
+positive-fields false zero t h p = (refl, omega arith)
+positive-fields s (suc x) t h p = elim (eq-or-lt-of-le (le-of-suc-le-suc h)) [
+  | inl e ↦ absurd (top (eqb t 0) (rw (eq-eqb (suc x) 2047 e) at p))
+  | inr l ↦ (sign-odd 53 s (2 ^ 52 + t) x 1074 (rw (ne-eqb (suc x) 2047 (ne-of-lt l)) at p), l)
+]
+  where
+    top : (b : Bool) → T (positive (cond b (inf s) nan)) → ⊥
+    top true p = p
+    top false p = p
+
+pub record Pattern (x : Float) (b : ℕ) : Type 0 where
+  pub below : b < 0x7ff0_0000_0000_0000
+  pub some : 0 < b
+  pub is : ofBits binary64 b ≡ x
+  pub value : HasValue x false (unitsAt (b / 2 ^ 52) (b % 2 ^ 52)) (2 ^ 1074)
+
+not-below : (b : ℕ) → b < 2 ^ 63 → b % 2 ^ 63 / 2 ^ 52 < 2047 → b < 0x7ff0_0000_0000_0000
+not-below b h k = omega arith
+
+fields-in : (b : ℕ) → b % 2 ^ 63 / 2 ^ 52 < 2048
+fields-in b = omega arith
+
+zero-pattern : (b : ℕ) → b ≡ 0 → T (positive (ofBits binary64 b)) → ⊥
+unfolding ofBits
+zero-pattern b e p = rw e at p
+
+pub pattern : (x : Float) → T (fits binary64 x) → T (positive x) → Pattern x (toBits binary64 x)
+unfolding ofBits
+pattern x f p =
+    let b : ℕ = toBits binary64 x in
+    let e : ofBits binary64 b ≡ x = ofBits-toBits binary64 x f in
+    let q : T (positive (ofBits binary64 b)) = subst (λ (z : Float). T (positive z)) (sym e) p in
+    let w = positive-fields (leb (2 ^ 63) b) (b % 2 ^ 63 / 2 ^ 52) (b % 2 ^ 52) (fields-in b) q in
+    let l : b < 0x7ff0_0000_0000_0000 = not-below b (leb-false (2 ^ 63) b (w .0)) (w .1) in
+    record {
+      below = l;
+      some = elim (eq-zero-or-pos b) [ inl z ↦ absurd (zero-pattern b z q) | inr g ↦ g ];
+      is = e;
+      value = (subst (λ (z : Float). HasValue z false (unitsAt (b / 2 ^ 52) (b % 2 ^ 52)) (2 ^ 1074)) e (bits-value b l));
+    }
+
+-- ---- either sign
+pub mod-63 : (b : ℕ) → b % 2 ^ 63 % 2 ^ 52 ≡ b % 2 ^ 52
+mod-63 b = omega arith
+
+pub bits-value-signed : (b : ℕ) → b % 2 ^ 63 < 0x7ff0_0000_0000_0000 → HasValue (ofBits binary64 b) (leb (2 ^ 63) b) (unitsAt (b % 2 ^ 63 / 2 ^ 52) (b % 2 ^ 52)) (2 ^ 1074)
+unfolding ofBits
+bits-value-signed b h = fields-value (leb (2 ^ 63) b) (b % 2 ^ 63 / 2 ^ 52) (b % 2 ^ 52) (field (b % 2 ^ 63) h)
+  where
+    field : (b : ℕ) → b < 0x7ff0_0000_0000_0000 → b / 2 ^ 52 < 2047
+    field b h = omega arith
+
+-- ---- a larger pattern is a larger number
+abbrev pub unitsOf : ℕ → ℕ
+unitsOf b = unitsAt (b / 2 ^ 52) (b % 2 ^ 52)
+
+units-lt : (x t : ℕ) → t < 2 ^ 52 → unitsAt x t < 2 ^ (52 + x)
+units-lt zero t h = h
+units-lt (suc x) t h = lt-of-lt-of-le (shl-lt 53 x (more t h)) (pow-mono (sums x))
+  where
+    more : (t : ℕ) → t < 2 ^ 52 → 2 ^ 52 + t < 2 ^ 53
+    more t h = omega arith
+
+    sums : (x : ℕ) → 53 + x ≤ 52 + suc x
+    sums x = omega arith
+
+units-ge : (x t : ℕ) → 2 ^ (52 + x) ≤ unitsAt (suc x) t
+units-ge x t = le-trans (le-of-eq (pow-add 2 52 x)) (mul-le-mul-right (2 ^ x) (from t))
+  where
+    from : (t : ℕ) → 2 ^ 52 ≤ 2 ^ 52 + t
+    from t = omega arith
+
+same-field : (x t u : ℕ) → t ≤ u → unitsAt x t ≤ unitsAt x u
+same-field zero t u h = h
+same-field (suc x) t u h = mul-le-mul-right (2 ^ x) (more t u h)
+  where
+    more : (t u : ℕ) → t ≤ u → 2 ^ 52 + t ≤ 2 ^ 52 + u
+    more t u h = omega arith
+
+fields-mono : (x y t u : ℕ) → t < 2 ^ 52 → (x ≡ y → t ≤ u) → x ≤ y → unitsAt x t ≤ unitsAt y u
+fields-mono x y t u T k h = elim (eq-or-lt-of-le h) [
+  | inl e ↦ subst (λ (z : ℕ). unitsAt x t ≤ unitsAt z u) e (same-field x t u (k e))
+  | inr l ↦ le-trans (le-of-lt (units-lt x t T)) (higher x y u l)
+]
+  where
+    higher : (x y u : ℕ) → x < y → 2 ^ (52 + x) ≤ unitsAt y u
+    higher x zero u l = absurd (no x l)
+      where
+        no : (x : ℕ) → x < 0 → ⊥
+        no x l = omega arith
+    higher x (suc y) u l = le-trans (pow-mono (sums x y l)) (units-ge y u)
+      where
+        sums : (x y : ℕ) → x < suc y → 52 + x ≤ 52 + y
+        sums x y l = omega arith
+
+pub units-mono : (b c : ℕ) → b ≤ c → unitsOf b ≤ unitsOf c
+units-mono b c h = fields-mono (b / 2 ^ 52) (c / 2 ^ 52) (b % 2 ^ 52) (c % 2 ^ 52) (in-52 b) (tail b c h) (head b c h)
+  where
+    in-52 : (b : ℕ) → b % 2 ^ 52 < 2 ^ 52
+    in-52 b = omega arith
+
+    tail : (b c : ℕ) → b ≤ c → b / 2 ^ 52 ≡ c / 2 ^ 52 → b % 2 ^ 52 ≤ c % 2 ^ 52
+    tail b c h e = omega arith
+
+    head : (b c : ℕ) → b ≤ c → b / 2 ^ 52 ≤ c / 2 ^ 52
+    head b c h = omega arith
+
+-- ---- a number above zero is one of at most 53 digits times a power of two
+pub record Digits (x : Float) : Type 0 where
+  pub m : ℕ
+  pub g : ℕ
+  pub m-lt : m < 2 ^ 53
+  pub units : inUnits binary64 x ≡ m * 2 ^ g
+
+digits-at : (x : Float) (k t : ℕ) → t < 2 ^ 52 → inUnits binary64 x ≡ unitsAt k t → Digits x
+digits-at x zero t h e = record { m = t; g = 0; m-lt = omega arith; units = e ∙ sym (mul-one t) }
+digits-at x (suc k) t h e = record { m = 2 ^ 52 + t; g = k; m-lt = omega arith; units = e }
+
+pub digits : (x : Float) → T (fits binary64 x) → T (positive x) → Digits x
+digits x f p = digits-at x (toBits binary64 x / 2 ^ 52) (toBits binary64 x % 2 ^ 52) (low (toBits binary64 x)) (units-of x _ (pattern x f p .value))
+  where
+    low : (b : ℕ) → b % 2 ^ 52 < 2 ^ 52
+    low b = omega arith

@@ -1,0 +1,10 @@
+-- A number as a whole number of units of its format's smallest value: at binary64 a unit is 2 ^ -1074, and one is 2 ^ 1074 units.
+-- After document 01, "How much a contract says".
+use Prim.Native.Nat.{ℕ, _*_, _/_, _^_}
+use lib.Ieee.{Float, nan, inf, fin, Format, low, up, down}
+
+-- the size in units; every finite number of the format is a whole number of them
+unfoldable pub inUnits : Format → Float → ℕ
+inUnits f nan = 0
+inUnits f (inf s) = 0
+inUnits f (fin s m e) = m * up e * 2 ^ low f / down e
