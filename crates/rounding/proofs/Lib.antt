@@ -1,4 +1,7 @@
 pub mod Negate
 pub mod Intervals
+pub mod Rounded
 pub mod Pattern
+pub mod Field
+pub mod Whole
 pub mod Choose

@@ -112,7 +112,7 @@ bits-value-signed b h = fields-value (leb (2 ^ 63) b) (b % 2 ^ 63 / 2 ^ 52) (b %
 abbrev pub unitsOf : ℕ → ℕ
 unitsOf b = unitsAt (b / 2 ^ 52) (b % 2 ^ 52)
 
-units-lt : (x t : ℕ) → t < 2 ^ 52 → unitsAt x t < 2 ^ (52 + x)
+pub units-lt : (x t : ℕ) → t < 2 ^ 52 → unitsAt x t < 2 ^ (52 + x)
 units-lt zero t h = h
 units-lt (suc x) t h = lt-of-lt-of-le (shl-lt 53 x (more t h)) (pow-mono (sums x))
   where
@@ -122,7 +122,7 @@ units-lt (suc x) t h = lt-of-lt-of-le (shl-lt 53 x (more t h)) (pow-mono (sums x
     sums : (x : ℕ) → 53 + x ≤ 52 + suc x
     sums x = omega arith
 
-units-ge : (x t : ℕ) → 2 ^ (52 + x) ≤ unitsAt (suc x) t
+pub units-ge : (x t : ℕ) → 2 ^ (52 + x) ≤ unitsAt (suc x) t
 units-ge x t = le-trans (le-of-eq (pow-add 2 52 x)) (mul-le-mul-right (2 ^ x) (from t))
   where
     from : (t : ℕ) → 2 ^ 52 ≤ 2 ^ 52 + t

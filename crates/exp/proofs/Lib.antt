@@ -1,0 +1,9 @@
+pub mod Unique
+pub mod Values
+pub mod Part
+pub mod Reduce
+pub mod Cut
+pub mod Far
+pub mod Middle
+pub mod Size
+pub mod Reduced

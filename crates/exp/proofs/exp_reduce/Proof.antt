@@ -1,0 +1,54 @@
+use mathlib.Core.Path.{sym, ap, subst, _∙_}
+use borrow.Author.Needs.{needs}
+use borrow.Author.Tests.{lt-ltb, le-ltb}
+use lib.Dec.{T}
+use Rattle.exp.specs.Exp.{expFar, expReduce}
+use Rattle.exp.proofs.Size.{above-zero, below-zero}
+use Rattle.exp.proofs.exp_reduce.Statement.{statement}
+use Rattle.exp.proofs.exp_reduce.Tie as tie
+
+exp-near-requires : tie.Need-exp-near-requires
+exp-near-requires c κs = (c .before .before .pre .0, c .before .if1 .taken, c .if2 .taken)
+
+returns : tie.Need-returns
+unfolding expReduce
+returns c = simp (lt-ltb _ _ (c .before .before .if1 .taken), lt-ltb _ _ (c .before .if2 .taken)) (c .exp-near .ensures)
+
+exp-up-requires : tie.Need-exp-up-requires
+exp-up-requires c κs = above-zero (c .before .before .before .args .x) (c .before .before .before .args .hx) (c .before .before .before .args .s) (subst T (sym (c .before .before .before .good .0 .1)) tt) (c .before .before .before .pre .0) (c .before .before .before .pre .1) (c .if3 .taken)
+
+returns-2 : tie.Need-returns-2
+unfolding expReduce
+returns-2 c = simp (lt-ltb _ _ (c .before .before .before .if1 .taken), le-ltb _ _ (c .before .before .if2 .left)) (c .exp-up .ensures ∙ ap (expFar (c .before .before .before .before .args .x)) (sym (c .before .if3 .taken)))
+
+exp-down-requires : tie.Need-exp-down-requires
+exp-down-requires c κs = below-zero (c .before .before .before .args .x) (c .before .before .before .args .hx) (c .before .before .before .args .s) (subst T (sym (c .before .before .before .good .0 .1)) tt) (c .before .before .before .pre .0) (c .before .before .before .pre .1) (c .if3 .left) .0
+
+returns-3 : tie.Need-returns-3
+unfolding expReduce
+returns-3 c = simp (lt-ltb _ _ (c .before .before .before .if1 .taken), le-ltb _ _ (c .before .before .if2 .left)) (c .exp-down .ensures ∙ ap (expFar (c .before .before .before .before .args .x)) (sym (below-zero (c .before .before .before .before .args .x) (c .before .before .before .before .args .hx) (c .before .before .before .before .args .s) (subst T (sym (c .before .before .before .before .good .0 .1)) tt) (c .before .before .before .before .pre .0) (c .before .before .before .before .pre .1) (c .before .if3 .left) .1)))
+
+returns-4 : tie.Need-returns-4
+unfolding expReduce
+returns-4 c = simp (le-ltb _ _ (c .before .if1 .left), lt-ltb _ _ (c .if4 .taken))
+
+exp-zero-requires : tie.Need-exp-zero-requires
+exp-zero-requires c κs = search needs
+
+returns-5 : tie.Need-returns-5
+unfolding expReduce
+returns-5 c = simp (le-ltb _ _ (c .before .before .if1 .left), le-ltb _ _ (c .before .if4 .left)) (c .exp-zero .ensures)
+
+pub exp-reduce-spec : {M : Type 1} → statement M
+exp-reduce-spec =
+    tie.close
+    (tie.spec
+    exp-near-requires
+    returns
+    exp-up-requires
+    returns-2
+    exp-down-requires
+    returns-3
+    returns-4
+    exp-zero-requires
+    returns-5)

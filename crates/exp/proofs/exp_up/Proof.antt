@@ -1,0 +1,70 @@
+use mathlib.Core.Bool.{false}
+use mathlib.Core.Path.{_≡_, _∙_}
+use Prim.Native.Nat.{ℕ}
+use native.Mathlib.Omega.{arith}
+use borrow.Author.Needs.{needs}
+use lib.IntN.{pos}
+use lib.Ieee.{Float, binary64, ofInt}
+use Rattle.exp.specs.Exp.{signed, expWhole}
+use Rattle.exp.proofs.Reduced.{farPart, Made, far-sized, far-few, far-ready, far-is, is-number, scale-up}
+use Rattle.exp.proofs.exp_up.Statement.{statement}
+use Rattle.exp.proofs.exp_up.Tie as tie
+
+-- n, t and y of the code are those of the law
+made : (x : Float) (n : ℕ) (t y : Float) → n ≡ expWhole x 0 → t ≡ ofInt binary64 (pos n) → y ≡ farPart false x t → Made false x n t y
+made x n t y e f g = record { n-is = e; t-is = f; y-is = g }
+
+array-read-whole-part : tie.Need-array-read-whole-part
+array-read-whole-part c = search needs
+
+whole-part-requires : tie.Need-whole-part-requires
+unfolding signed
+whole-part-requires c κs = let w = far-sized false (c .args .x) (c .pre) .few in (w .from, w .within)
+
+of-whole-requires : tie.Need-of-whole-requires
+unfolding signed expWhole
+of-whole-requires c κs = let h = far-few false (c .before .args .x) (c .whole-part .result) (c .before .pre) (c .whole-part .ensures) in omega arith
+
+array-read-exp-part : tie.Need-array-read-exp-part
+array-read-exp-part c = search needs
+
+array-read-exp-part-2 : tie.Need-array-read-exp-part-2
+array-read-exp-part-2 c = search needs
+
+exp-part-requires : tie.Need-exp-part-requires
+exp-part-requires c κs = search needs
+
+float-to-bits-of-pattern : tie.Need-float-to-bits-of-pattern
+unfolding signed expWhole
+float-to-bits-of-pattern c = is-number (far-ready (c .before .before .before .pre) (made (c .before .before .before .args .x) (c .before .before .whole-part .result) (c .before .of-whole .result) (c .exp-part .result) (c .before .before .whole-part .ensures) (c .before .of-whole .ensures) (c .exp-part .ensures)))
+
+mul-of-pattern : tie.Need-mul-of-pattern
+unfolding signed expWhole
+mul-of-pattern c = let h = far-few false (c .before .before .before .args .x) (c .before .before .whole-part .result) (c .before .before .before .pre) (c .before .before .whole-part .ensures) in omega arith
+
+add-of-pattern : tie.Need-add-of-pattern
+unfolding signed expWhole
+add-of-pattern c = let h = far-few false (c .before .before .before .args .x) (c .before .before .whole-part .result) (c .before .before .before .pre) (c .before .before .whole-part .ensures) in let m = far-ready (c .before .before .before .pre) (made (c .before .before .before .args .x) (c .before .before .whole-part .result) (c .before .of-whole .result) (c .exp-part .result) (c .before .before .whole-part .ensures) (c .before .of-whole .ensures) (c .exp-part .ensures)) .exponent in omega arith
+
+of-pattern-requires : tie.Need-of-pattern-requires
+of-pattern-requires c κs = search needs
+
+returns : tie.Need-returns
+unfolding signed expWhole
+returns c = c .of-pattern .ensures ∙ scale-up (c .before .exp-part .result) (c .before .before .before .whole-part .result) ∙ far-is (made (c .before .before .before .before .args .x) (c .before .before .before .whole-part .result) (c .before .before .of-whole .result) (c .before .exp-part .result) (c .before .before .before .whole-part .ensures) (c .before .before .of-whole .ensures) (c .before .exp-part .ensures))
+
+pub exp-up-spec : {M : Type 1} → statement M
+exp-up-spec =
+    tie.close
+    (tie.spec
+    array-read-whole-part
+    whole-part-requires
+    of-whole-requires
+    array-read-exp-part
+    array-read-exp-part-2
+    exp-part-requires
+    float-to-bits-of-pattern
+    mul-of-pattern
+    add-of-pattern
+    of-pattern-requires
+    returns)

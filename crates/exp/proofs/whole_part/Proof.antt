@@ -1,0 +1,27 @@
+use mathlib.Core.Bool.{Bool, not}
+use mathlib.Core.Path.{sym, subst}
+use native.Mathlib.Omega.{arith}
+use borrow.Author.Needs.{needs}
+use lib.Dec.{T}
+use Rattle.exp.proofs.Cut.{cut}
+use Rattle.exp.proofs.Middle.{number-within}
+use Rattle.exp.proofs.whole_part.Statement.{statement}
+use Rattle.exp.proofs.whole_part.Tie as tie
+
+float-to-bits-b : tie.Need-float-to-bits-b
+float-to-bits-b c = subst (λ (b : Bool). T (not b)) (sym (number-within (c .args .v) 2239 2 (c .pre .1))) tt
+
+add-result : tie.Need-add-result
+add-result c = search needs
+
+sub-result : tie.Need-sub-result
+sub-result c = let h = cut (c .args .v) (subst T (sym (c .good .0 .1)) tt) (c .pre .0) (c .pre .1) in omega arith
+
+shr-result : tie.Need-shr-result
+shr-result c = let h = cut (c .args .v) (subst T (sym (c .good .0 .1)) tt) (c .pre .0) (c .pre .1) in omega arith
+
+returns : tie.Need-returns
+returns c = cut (c .args .v) (subst T (sym (c .good .0 .1)) tt) (c .pre .0) (c .pre .1) .whole
+
+pub whole-part-spec : {M : Type 1} → statement M
+whole-part-spec = tie.close (tie.spec float-to-bits-b add-result sub-result shr-result returns)
