@@ -6,7 +6,7 @@ use native.Mathlib.Nat.{mul-comm, div-le-self, mul-div-mul-right}
 use native.Mathlib.Omega.{arith}
 use lib.Pow.{pow-pos, pow-add}
 use lib.Dec.{T, lit<, lit≤}
-use lib.Ieee.{Float, nan, inf, fin, binary64, up, down, fits, isNan, toUnsigned}
+use lib.Ieee.{Float, nan, inf, fin, binary64, up, down, fits, toUnsigned}
 use lib.Ieee.Fits.{down-pos}
 use lib.Ieee.Exact.{HasValue}
 use lib.Ieee.Positive.{positive}

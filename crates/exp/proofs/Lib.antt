@@ -7,3 +7,5 @@ pub mod Far
 pub mod Middle
 pub mod Size
 pub mod Reduced
+pub mod Top
+pub mod Signed

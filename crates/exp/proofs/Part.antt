@@ -1,7 +1,6 @@
 -- For |hi| ≤ 3/8 and |lo| ≤ 1/1024, `expPart hi lo` is finite, above zero, and from 351/1024 to 1697/1024. Assumes nothing.
 use mathlib.Core.Path.{refl}
 use mathlib.Core.Bool.{false}
-use Prim.Native.Nat.{ℕ}
 use lib.Dec.{T, lit<, lit≤}
 use lib.Ieee.{Float, binary64, fits, ofBits}
 use lib.Ieee.Fits.{sub-fits}

@@ -12,15 +12,14 @@ use lib.Ieee.Bits.{nanBits-above}
 use lib.Ieee.Exact.{HasValue}
 use Rattle.number.specs.Number.{_⊖_, _⊗_, float, patternOf}
 use Rattle.number.specs.Table.{_!_}
-use Rattle.rounding.specs.Bounds.{Within}
 use Rattle.rounding.proofs.Intervals.{Up}
 use Rattle.exp.specs.Exp.{ln2Hi, ln2Lo, twoM1000, signed, expPart, expScale, expWhole, expFar}
 use Rattle.exp.specs.Range.{Split, Sized}
-use Rattle.exp.proofs.Part.{Bounded, part-bound, part-fits}
+use Rattle.exp.proofs.Part.{part-bound, part-fits}
 use Rattle.exp.proofs.Reduce.{Near, H}
 use Rattle.exp.proofs.Far.{sgn, Far, far, difference-within}
 use Rattle.exp.proofs.Middle.{Middle, middle, number-within}
-use Rattle.exp.proofs.Size.{Own, own, word-lt, word-ge}
+use Rattle.exp.proofs.Size.{own, word-lt, word-ge}
 
 -- y, before k is added
 pub record Ready (y : Float) : Type 0 where

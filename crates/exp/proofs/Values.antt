@@ -1,6 +1,6 @@
 -- Values of the exponential, computed from its definition. Assumes nothing.
 use mathlib.Core.Path.{_≡_, refl}
-use lib.Ieee.{Float, nan, inf, fin, ofBits, toBits, add, sub, mul, div, neg, lt, toUnsigned, ofInt}
+use lib.Ieee.{ofBits, toBits, add, sub, mul, div, neg, lt, toUnsigned, ofInt}
 use Rattle.number.specs.Number.{float}
 use Rattle.exp.specs.Exp.{expOf, expPoly, expZero, expPart, expScale, signed, expWhole, expFar, expNear, expReduce, expLarge}
 

@@ -4,7 +4,7 @@ use Prim.Native.Nat.{ℕ, _+_, _-_, _*_, _/_, _%_, _^_}
 use mathlib.Core.List.{List, [], _∷_}
 use lib.IntN.{pos}
 use lib.Ieee.{Float, binary64, neg, lt, toUnsigned, ofInt}
-use Rattle.number.specs.Number.{if_then_else_, _<?_, _≤?_, _=?_, _⊕_, _⊖_, _⊗_, _⊘_, patternOf, float, zero⁺, half, one, two}
+use Rattle.number.specs.Number.{if_then_else_, _<?_, _≤?_, _=?_, _⊕_, _⊖_, _⊗_, _⊘_, patternOf, float, zero⁺, one, two}
 use Rattle.number.specs.Table.{_!_}
 
 -- ---- constants

@@ -1,7 +1,7 @@
 -- What the functions below `exp` ask of x: which high word and sign it has, and how large it is.
 use mathlib.Core.Path.{_≡_}
 use mathlib.Core.Bool.{Bool}
-use Prim.Native.Nat.{ℕ, _*_, _/_, _%_, _^_, _≤_, _<_}
+use Prim.Native.Nat.{ℕ, _*_, _/_, _%_, _^_, _≤_}
 use lib.Ieee.{Float, nan, inf, fin, up, down}
 use Rattle.number.specs.Number.{patternOf}
 

@@ -1,7 +1,7 @@
 -- Values of the normal log density, computed from its definition. Assumes nothing.
 use mathlib.Core.Path.{_≡_, refl}
-use mathlib.Core.Bool.{true, false}
-use lib.Ieee.{Float, nan, inf, add, sub, mul, neg, ofBits}
+use mathlib.Core.Bool.{true}
+use lib.Ieee.{nan, inf, add, sub, mul, neg, ofBits}
 use Rattle.number.specs.Number.{zero⁺, one, float}
 use Rattle.normal.specs.Normal.{lnpdfOf}
 

@@ -1,13 +1,13 @@
 -- What the tests `x != x`, `x < 0.0` and `x == 0.0` say of a number. Assumes nothing.
 use mathlib.Core.Path.{_≡_, refl, sym, ap, _∙_, subst}
-use mathlib.Core.Bool.{Bool, true, false, not, cond, _&&_, _||_, true≢false, Bool·beq}
+use mathlib.Core.Bool.{Bool, true, false, not, _&&_, _||_, true≢false, Bool·beq}
 use Prim.Native.Nat.{ℕ, zero, suc, _+_, _-_, _*_, _^_, _≤_, _<_}
 use native.Mathlib.Nat.{le-refl, sub-self, zero-mul, mul-pos, mul-le-mul-left, pow-suc}
 use native.Mathlib.Omega.{arith}
 use borrow.Author.Tests.{le-ltb, eq-eqb, ltb-true, ltb-false}
-use lib.Dec.{T, ltb, eqb, eqb→eq, lit<}
+use lib.Dec.{T, eqb, eqb→eq, lit<}
 use lib.IntN.{ℤ, pos, negsuc}
-use lib.Ieee.{Float, nan, inf, fin, Format, binary64, up, down, neg, add, sub, sum, round, lt, eq, ne, fits, isNan, ofBits}
+use lib.Ieee.{Float, nan, inf, fin, binary64, up, down, neg, add, sub, sum, round, lt, eq, ne, fits, isNan, ofBits}
 use lib.Ieee.Compare.{nan-differs, differs-from-itself}
 use lib.Ieee.Fits.{up-pos, down-pos, and-l}
 use lib.Ieee.Scale.{finite, round-same}

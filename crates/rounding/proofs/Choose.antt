@@ -1,9 +1,10 @@
--- One of two orders holds. Assumes nothing.
+-- Of two whole numbers, which is the smaller. Assumes nothing.
 use mathlib.Core.Logic.{_⊎_, inl, inr}
 use Prim.Native.Nat.{ℕ, _≤_, _<_}
 use native.Mathlib.Nat.{lt-of-not-le}
 use native.Mathlib.Decide.{decLe}
 
+-- a ≤ b or b < a
 pub le-or-lt : (a b : ℕ) → (a ≤ b) ⊎ (b < a)
 le-or-lt a b = go (decLe a b)
   where

@@ -1,31 +1,32 @@
 -- The number that a bit pattern of binary64 stands for, in units of 2 ^ -1074. Assumes nothing.
-use mathlib.Core.Path.{_≡_, refl, sym, ap, _∙_, subst}
-use mathlib.Core.Bool.{Bool, true, false, not, _&&_, cond, true≢false}
-use mathlib.Core.Logic.{_⊎_, inl, inr}
-use Prim.Native.Nat.{ℕ, zero, suc, _+_, _-_, _*_, _/_, _%_, _^_, _≤_, _<_}
-use native.Mathlib.Nat.{mul-one, mul-comm, mul-div-cancel, lt-irrefl, lt-of-lt-of-le, lt-of-le-of-lt, le-of-lt, ne-of-lt, eq-or-lt-of-le, le-of-suc-le-suc, mul-assoc, mul-pos, div-lt-iff-lt-mul, eq-zero-or-pos, le-trans, le-of-eq, mul-le-mul-right}
+use mathlib.Core.Path.{_≡_, refl, sym, subst}
+use mathlib.Core.Bool.{Bool, true, false, cond}
+use mathlib.Core.Logic.{inl, inr}
+use Prim.Native.Nat.{ℕ, zero, suc, _+_, _*_, _/_, _%_, _^_, _≤_, _<_}
+use native.Mathlib.Nat.{mul-one, lt-of-lt-of-le, le-of-lt, ne-of-lt, eq-or-lt-of-le, le-of-suc-le-suc, eq-zero-or-pos, le-trans, le-of-eq, mul-le-mul-right}
 use native.Mathlib.Omega.{arith}
-use borrow.Author.Tests.{lt-ltb, le-leb, lt-leb, ne-eqb, eq-eqb, leb-false}
-use lib.Dec.{T, ltb, leb, eqb, ltb→lt, leb→le, eqb→eq}
-use lib.IntN.{ℤ, pos, negsuc}
-use lib.Pow.{pow-pos, pow-add, pow-mono, shl-lt}
-use lib.Ieee.{Float, nan, inf, fin, binary64, up, down, odd, ofFields, ofBits, toBits, fits}
-use lib.Ieee.Fits.{up-pos, down-pos, and-l, and-r}
+use borrow.Author.Tests.{lt-leb, ne-eqb, eq-eqb, leb-false}
+use lib.Dec.{T, leb, eqb}
+use lib.Pow.{pow-add, pow-mono, shl-lt}
+use lib.Ieee.{Float, nan, inf, fin, binary64, odd, ofFields, ofBits, toBits, fits}
 use lib.Ieee.Bits.{ofBits-toBits}
 use lib.Ieee.Exact.{HasValue, odd-sign}
 use lib.Ieee.Positive.{positive}
 use Rattle.rounding.specs.Units.{inUnits}
+use Rattle.rounding.proofs.Units.{value→units, in-units, placed, placed-units}
 
--- the exponent's field, and the digits
+-- the units of the number with the exponent's field x and the digits t, x below 2047
 abbrev pub unitsAt : ℕ → ℕ → ℕ
 unitsAt zero t = t
 unitsAt (suc k) t = (2 ^ 52 + t) * 2 ^ k
 
+-- sign, field and digits stand for ±(unitsAt x t) units
 pub fields-value : (s : Bool) (x t : ℕ) → x < 2047 → HasValue (ofFields binary64 s x t) s (unitsAt x t) (2 ^ 1074)
 unfolding ofFields
 fields-value s zero t h = subst (λ (a : ℕ). HasValue (odd 53 s t 0 1074) s a (2 ^ 1074)) (mul-one t) (odd-sign 53 s t 0 1074)
 fields-value s (suc x) t h = rw (ne-eqb (suc x) 2047 (ne-of-lt h)) (odd-sign 53 s (2 ^ 52 + t) x 1074)
 
+-- a pattern below the infinity's stands for a number with the sign clear, of that many units
 pub bits-value : (b : ℕ) → b < 0x7ff0_0000_0000_0000 → HasValue (ofBits binary64 b) false (unitsAt (b / 2 ^ 52) (b % 2 ^ 52)) (2 ^ 1074)
 unfolding ofBits
 bits-value b h = rw (lt-leb (2 ^ 63) b (small b h), rest b h) (fields-value false (b / 2 ^ 52) (b % 2 ^ 52) (field b h))
@@ -39,13 +40,11 @@ bits-value b h = rw (lt-leb (2 ^ 63) b (small b h), rest b h) (fields-value fals
     field : (b : ℕ) → b < 0x7ff0_0000_0000_0000 → b / 2 ^ 52 < 2047
     field b h = omega arith
 
+-- a number that is a units is a by `inUnits`
 pub units-of : (x : Float) (a : ℕ) → HasValue x false a (2 ^ 1074) → inUnits binary64 x ≡ a
-unfolding inUnits
-units-of nan a v = absurd v
-units-of (inf s) a v = absurd v
-units-of (fin s m e) a v = ap (λ (z : ℕ). z / down e) (v .1) ∙ mul-div-cancel a (down-pos e)
+units-of x a v = in-units binary64 x a (value→units binary64 x a v)
 
--- which patterns a number above zero has
+-- ---- the pattern of a number above zero
 sign-odd : (d : ℕ) (s : Bool) (q k l : ℕ) → T (positive (odd d s q k l)) → s ≡ false
 unfolding odd
 sign-odd d true zero k l p = absurd p
@@ -66,6 +65,7 @@ positive-fields s (suc x) t h p = elim (eq-or-lt-of-le (le-of-suc-le-suc h)) [
     top true p = p
     top false p = p
 
+-- b, above zero and below the infinity's pattern, is the pattern of x
 pub record Pattern (x : Float) (b : ℕ) : Type 0 where
   pub below : b < 0x7ff0_0000_0000_0000
   pub some : 0 < b
@@ -82,6 +82,7 @@ zero-pattern : (b : ℕ) → b ≡ 0 → T (positive (ofBits binary64 b)) → �
 unfolding ofBits
 zero-pattern b e p = rw e at p
 
+-- so is the kit's pattern of a number above zero
 pub pattern : (x : Float) → T (fits binary64 x) → T (positive x) → Pattern x (toBits binary64 x)
 unfolding ofBits
 pattern x f p =
@@ -98,9 +99,12 @@ pattern x f p =
     }
 
 -- ---- either sign
+
+-- the digits are below the sign
 pub mod-63 : (b : ℕ) → b % 2 ^ 63 % 2 ^ 52 ≡ b % 2 ^ 52
 mod-63 b = omega arith
 
+-- a pattern that is no NaN's and no infinity's stands for a number with its sign, of so many units
 pub bits-value-signed : (b : ℕ) → b % 2 ^ 63 < 0x7ff0_0000_0000_0000 → HasValue (ofBits binary64 b) (leb (2 ^ 63) b) (unitsAt (b % 2 ^ 63 / 2 ^ 52) (b % 2 ^ 52)) (2 ^ 1074)
 unfolding ofBits
 bits-value-signed b h = fields-value (leb (2 ^ 63) b) (b % 2 ^ 63 / 2 ^ 52) (b % 2 ^ 52) (field (b % 2 ^ 63) h)
@@ -109,9 +113,12 @@ bits-value-signed b h = fields-value (leb (2 ^ 63) b) (b % 2 ^ 63 / 2 ^ 52) (b %
     field b h = omega arith
 
 -- ---- a larger pattern is a larger number
+
+-- the units of the number with the pattern b, whose sign is clear
 abbrev pub unitsOf : ℕ → ℕ
 unitsOf b = unitsAt (b / 2 ^ 52) (b % 2 ^ 52)
 
+-- a field of x stands for less than 2 ^ (52 + x) units
 pub units-lt : (x t : ℕ) → t < 2 ^ 52 → unitsAt x t < 2 ^ (52 + x)
 units-lt zero t h = h
 units-lt (suc x) t h = lt-of-lt-of-le (shl-lt 53 x (more t h)) (pow-mono (sums x))
@@ -122,6 +129,7 @@ units-lt (suc x) t h = lt-of-lt-of-le (shl-lt 53 x (more t h)) (pow-mono (sums x
     sums : (x : ℕ) → 53 + x ≤ 52 + suc x
     sums x = omega arith
 
+-- and a field of x + 1 for that or more
 pub units-ge : (x t : ℕ) → 2 ^ (52 + x) ≤ unitsAt (suc x) t
 units-ge x t = le-trans (le-of-eq (pow-add 2 52 x)) (mul-le-mul-right (2 ^ x) (from t))
   where
@@ -151,6 +159,7 @@ fields-mono x y t u T k h = elim (eq-or-lt-of-le h) [
         sums : (x y : ℕ) → x < suc y → 52 + x ≤ 52 + y
         sums x y l = omega arith
 
+-- b ≤ c gives unitsOf b ≤ unitsOf c
 pub units-mono : (b c : ℕ) → b ≤ c → unitsOf b ≤ unitsOf c
 units-mono b c h = fields-mono (b / 2 ^ 52) (c / 2 ^ 52) (b % 2 ^ 52) (c % 2 ^ 52) (in-52 b) (tail b c h) (head b c h)
   where
@@ -164,18 +173,19 @@ units-mono b c h = fields-mono (b / 2 ^ 52) (c / 2 ^ 52) (b % 2 ^ 52) (c % 2 ^ 5
     head b c h = omega arith
 
 -- ---- a number above zero is one of at most 53 digits times a power of two
+
+-- x is m 2 ^ g units, m < 2 ^ 53
 pub record Digits (x : Float) : Type 0 where
   pub m : ℕ
   pub g : ℕ
   pub m-lt : m < 2 ^ 53
   pub units : inUnits binary64 x ≡ m * 2 ^ g
 
-digits-at : (x : Float) (k t : ℕ) → t < 2 ^ 52 → inUnits binary64 x ≡ unitsAt k t → Digits x
-digits-at x zero t h e = record { m = t; g = 0; m-lt = omega arith; units = e ∙ sym (mul-one t) }
-digits-at x (suc k) t h e = record { m = 2 ^ 52 + t; g = k; m-lt = omega arith; units = e }
-
+-- so is every number of binary64 above zero
 pub digits : (x : Float) → T (fits binary64 x) → T (positive x) → Digits x
-digits x f p = digits-at x (toBits binary64 x / 2 ^ 52) (toBits binary64 x % 2 ^ 52) (low (toBits binary64 x)) (units-of x _ (pattern x f p .value))
-  where
-    low : (b : ℕ) → b % 2 ^ 52 < 2 ^ 52
-    low b = omega arith
+digits nan f p = absurd p
+digits (inf s) f p = absurd p
+digits (fin true n e) f p = absurd p
+digits (fin false n e) f p =
+    let d = placed binary64 false n e f in
+    record { m = n; g = d .place; m-lt = d .digits; units = in-units binary64 (fin false n e) (n * 2 ^ d .place) (λ (t : T false). absurd t, placed-units binary64 n e d) }

@@ -1,7 +1,7 @@
--- Bounds on the size of a number by a fraction a / c. A NaN and an infinity have none.
+-- Bounds on the size of a number by a fraction a / c: a NaN and an infinity have none. And a bound on how far two whole numbers are apart.
 use mathlib.Core.Path.{_≡_}
 use mathlib.Core.Bool.{Bool}
-use Prim.Native.Nat.{ℕ, _*_, _≤_}
+use Prim.Native.Nat.{ℕ, _+_, _*_, _≤_}
 use lib.Ieee.{Float, nan, inf, fin, up, down}
 
 -- finite, and at most a / c in size
@@ -15,3 +15,7 @@ abbrev pub From : Bool → Float → ℕ → ℕ → Type 0
 From s nan a c = ⊥
 From s (inf t) a c = ⊥
 From s (fin t m e) a c = (t ≡ s) × (a * down e ≤ m * up e * c)
+
+-- |a - b| ≤ d
+abbrev pub Near : ℕ → ℕ → ℕ → Type 0
+Near d a b = (a ≤ b + d) × (b ≤ a + d)

@@ -1,6 +1,5 @@
 use mathlib.Core.Bool.{Bool, not}
 use mathlib.Core.Path.{refl, sym, subst}
-use borrow.Author.Needs.{needs}
 use borrow.Author.Tests.{le-leb, lt-leb}
 use lib.Dec.{T}
 use lib.Ieee.{add, toBits}

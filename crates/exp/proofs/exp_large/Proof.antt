@@ -1,8 +1,6 @@
 use mathlib.Core.Path.{sym, subst}
-use borrow.Author.Needs.{needs}
 use borrow.Author.Tests.{le-leb, lt-leb, eq-eqb, ne-eqb}
 use lib.Dec.{T}
-use lib.Ieee.{mul, ofBits}
 use Rattle.exp.specs.Exp.{expLarge}
 use Rattle.exp.proofs.Size.{infinite, within-range}
 use Rattle.exp.proofs.exp_large.Statement.{statement}

@@ -2,7 +2,6 @@ use mathlib.Core.Path.{ap}
 use borrow.Author.Needs.{needs}
 use borrow.Author.Tests.{le-leb}
 use lib.Ieee.{binary64, ofInt}
-use mir.Val.{toZ}
 use Rattle.number.proofs.of_whole.Statement.{statement}
 use Rattle.number.proofs.of_whole.Tie as tie
 

@@ -1,0 +1,9 @@
+pub mod Near
+pub mod Digits
+pub mod Parts
+pub mod Scaled
+pub mod Squares
+pub mod Nearest
+pub mod Theorem
+pub mod Cases
+pub mod Values
