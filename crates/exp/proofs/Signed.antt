@@ -66,7 +66,7 @@ times-signed nan h = absurd h
 times-signed (inf true) h = absurd (true≢false h)
 times-signed (inf false) h = refl
 times-signed (fin true m e) h = absurd (true≢false h)
-times-signed (fin false m e) h = round-signed binary64 false _ _
+times-signed (fin false m e) h = round-signed binary64 false (m * up e * (1 * up (negsuc 999))) (down e * down (negsuc 999))
 
 -- ---- k added
 

@@ -1,2 +1,6 @@
+-- what the tests `x != x`, `x < 0.0`, `x == 0.0` say, and document 01's cases of max
 pub mod Cases
+-- rows and tables
+pub mod Table
+-- no second outcome satisfies a contract
 pub mod Unique

@@ -1,0 +1,28 @@
+use borrow.Author.Needs.{needs}
+use Rattle.linsolve.proofs.Steps.{clear-yes, clear-no}
+use Rattle.linsolve.proofs.clear_row.Statement.{statement}
+use Rattle.linsolve.proofs.clear_row.Tie as tie
+
+cell-of-requires : tie.Need-cell-of-requires
+cell-of-requires c κs = search needs
+
+cell-of-requires-2 : tie.Need-cell-of-requires-2
+cell-of-requires-2 c κs = search needs
+
+less-row-requires : tie.Need-less-row-requires
+less-row-requires c κs = search needs
+
+returns : tie.Need-returns
+returns c =
+    let start = c .before .before .before .before .before .before .before .before in
+    clear-yes _ _ _ _ (start .pre .3) (start .pre .4) _ (c .before .before .before .before .before .before .cell-of .ensures) (c .before .before .before .before .cell-of2 .ensures)
+    (c .before .before .before .if1 .taken) (c .less-row .ensures)
+
+returns-2 : tie.Need-returns-2
+returns-2 c =
+    let start = c .before .before .before .before .before in
+    clear-no _ _ _ _ (start .pre .3) (start .pre .4) _ (c .before .before .before .cell-of .ensures) (c .before .cell-of2 .ensures) (c .if1 .left)
+
+pub clear-row-spec : {M : Type 1} → statement M
+clear-row-spec =
+    tie.close (tie.spec cell-of-requires cell-of-requires-2 less-row-requires returns returns-2)

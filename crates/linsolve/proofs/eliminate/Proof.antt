@@ -1,0 +1,55 @@
+use Prim.Native.Nat.{_-_, _≤_}
+use mathlib.Core.Bool.{true}
+use mathlib.Core.Path.{_≡_}
+use native.Mathlib.Omega.{arith}
+use borrow.Author.Needs.{needs}
+use Rattle.linsolve.specs.Solver.{system, eliminateTo}
+use Rattle.linsolve.specs.Promises.{Remains}
+use Rattle.linsolve.proofs.Steps.{columns-first, columns-more, columns-stop}
+use Rattle.linsolve.proofs.eliminate.Statement.{statement}
+use Rattle.linsolve.proofs.eliminate.Tie as tie
+
+abbrev Inv-loop : tie.InvT-loop
+Inv-loop a₀ b₀ n c₀ a b c = (c ≤ n) × Remains (eliminateTo n (system a₀ b₀) c) true a b
+
+abbrev μ-loop : tie.MeasureT-loop
+μ-loop a₀ b₀ n c₀ a b c = n - c
+
+loop-holds : tie.Need-loop-holds Inv-loop μ-loop
+loop-holds c = (omega arith, columns-first _ _ _ (c .pre .1) (c .pre .2))
+
+eliminate-column-requires : tie.Need-eliminate-column-requires Inv-loop μ-loop
+eliminate-column-requires c κs = search needs
+
+add-c : tie.Need-add-c Inv-loop μ-loop
+add-c c = search needs
+
+loop-less : tie.Need-loop-less Inv-loop μ-loop
+loop-less c = search needs
+
+loop-again : tie.Need-loop-again Inv-loop μ-loop
+loop-again c =
+    let done = c .before .before .before .before .before in
+    (omega arith, columns-more _ _ _ (done .loop .inv .1) (c .before .eliminate-column .ensures) (c .if1 .taken))
+
+returns : tie.Need-returns Inv-loop μ-loop
+returns c =
+    let done = c .before .before .before .before .before in
+    columns-stop _ _ _ (done .loop .inv .1) (c .before .eliminate-column .ensures) (c .if1 .left) (c .before .before .before .before .loop-test .taken)
+
+returns-2 : tie.Need-returns-2 Inv-loop μ-loop
+returns-2 c = let e : c .before .loop .c ≡ c .before .before .args .n = omega arith in rw e at (c .before .loop .inv .1)
+
+pub eliminate-spec : {M : Type 1} → statement M
+eliminate-spec =
+    tie.close
+    (tie.spec
+    Inv-loop
+    μ-loop
+    loop-holds
+    eliminate-column-requires
+    add-c
+    loop-less
+    loop-again
+    returns
+    returns-2)

@@ -1,0 +1,67 @@
+use Prim.Native.Nat.{suc, _-_, _<_, _≤_}
+use mathlib.Core.Path.{_≡_}
+use native.Mathlib.Omega.{arith}
+use borrow.Author.Needs.{needs}
+use Rattle.linsolve.specs.Solver.{system, lessKnown}
+use Rattle.linsolve.proofs.Steps.{known-first, known-more}
+use Rattle.linsolve.proofs.less_known.Statement.{statement}
+use Rattle.linsolve.proofs.less_known.Tie as tie
+
+abbrev Inv-loop : tie.InvT-loop
+Inv-loop a b x n r rest₀ j₀ rest j = (j ≤ n) × (r < j) × (rest ≡ lessKnown n (system a b) x r (j - suc r))
+
+abbrev μ-loop : tie.MeasureT-loop
+μ-loop a b x n r rest₀ j₀ rest j = n - j
+
+mul-rest : tie.Need-mul-rest Inv-loop μ-loop
+mul-rest c = search needs
+
+element-copy-out-rest : tie.Need-element-copy-out-rest Inv-loop μ-loop
+element-copy-out-rest c = search needs
+
+add-j : tie.Need-add-j Inv-loop μ-loop
+add-j c = search needs
+
+loop-holds : tie.Need-loop-holds Inv-loop μ-loop
+loop-holds c = (omega arith, omega arith, known-first _ _ _ _)
+
+cell-of-requires : tie.Need-cell-of-requires Inv-loop μ-loop
+cell-of-requires c κs = search needs
+
+mul-rest-2 : tie.Need-mul-rest-2 Inv-loop μ-loop
+mul-rest-2 c = search needs
+
+element-copy-out-rest-2 : tie.Need-element-copy-out-rest-2 Inv-loop μ-loop
+element-copy-out-rest-2 c = search needs
+
+add-j-2 : tie.Need-add-j-2 Inv-loop μ-loop
+add-j-2 c = search needs
+
+loop-less : tie.Need-loop-less Inv-loop μ-loop
+loop-less c = search needs
+
+loop-again : tie.Need-loop-again Inv-loop μ-loop
+loop-again c =
+    let done = c .before .before .before in
+    (omega arith, omega arith, known-more _ _ _ _ _ (done .loop .inv .1) (done .loop .inv .2) (c .before .cell-of .ensures))
+
+returns : tie.Need-returns Inv-loop μ-loop
+returns c = let e : c .before .loop .j ≡ c .before .before .before .args .n = omega arith in rw e at (c .before .loop .inv .2)
+
+pub less-known-spec : {M : Type 1} → statement M
+less-known-spec =
+    tie.close
+    (tie.spec
+    Inv-loop
+    μ-loop
+    mul-rest
+    element-copy-out-rest
+    add-j
+    loop-holds
+    cell-of-requires
+    mul-rest-2
+    element-copy-out-rest-2
+    add-j-2
+    loop-less
+    loop-again
+    returns)

@@ -1,0 +1,24 @@
+use borrow.Author.Needs.{needs}
+use Rattle.linsolve.proofs.Steps.{large-is, solved-is, singular-is}
+use Rattle.linsolve.proofs.solve.Statement.{statement}
+use Rattle.linsolve.proofs.solve.Tie as tie
+
+returns : tie.Need-returns
+returns c = large-is _ _ _ (c .if1 .taken)
+
+eliminate-requires : tie.Need-eliminate-requires
+eliminate-requires c κs = search needs
+
+back-substitute-requires : tie.Need-back-substitute-requires
+back-substitute-requires c κs = search needs
+
+returns-2 : tie.Need-returns-2
+returns-2 c =
+    solved-is _ _ _ (c .before .before .before .before .before .before .before .if1 .left) (c .before .before .before .before .eliminate .ensures)
+    (c .before .before .before .if2 .taken) (c .back-substitute .ensures)
+
+returns-3 : tie.Need-returns-3
+returns-3 c = singular-is _ _ _ (c .before .before .before .before .if1 .left) (c .before .eliminate .ensures) (c .if2 .left)
+
+pub solve-spec : {M : Type 1} → statement M
+solve-spec = tie.close (tie.spec returns eliminate-requires back-substitute-requires returns-2 returns-3)

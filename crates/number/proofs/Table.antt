@@ -1,0 +1,89 @@
+-- Laws of rows and tables: a list that is filled in part, followed one store further, and that a table's places lie within 256. Assumes nothing.
+use Prim.Native.Nat.{ℕ, zero, suc, _+_, _-_, _*_, _<_, _≤_}
+use mathlib.Core.Path.{_≡_, refl, _∙_}
+use mathlib.Core.List.{List, _++_, append-assoc, append-nil}
+use native.Mathlib.Numerals.{add-one}
+use native.Mathlib.Nat.{add-zero, add-suc, mul-le-mul, mul-le-mul-right, suc-mul}
+use native.Mathlib.Omega.{arith}
+use lib.Arith.{digits-lt}
+use lib.ListN.{length, set, take, drop, length-append, length-drop, length-take, take-append-drop, List·getD-append}
+use lib.Seq.{length-take-le, drop-cons, set-at, getD-append-add, getD-drop, getD-take, set-append-left, take-set-lt, drop-set-lt}
+use lib.Ieee.{Float, nan}
+use Rattle.number.specs.Table.{_!_, tab, fillAt}
+
+pub length-tab : {A : Type 0} (f : ℕ → A) (n : ℕ) → length (tab f n) ≡ n
+unfolding tab
+length-tab f zero = refl
+length-tab f (suc n) = simp (length-append, length-tab f n) (omega arith)
+
+pub tab-ext : {A : Type 0} (f g : ℕ → A) (n : ℕ) → ((i : ℕ) → i < n → f i ≡ g i) → tab f n ≡ tab g n
+unfolding tab
+tab-ext f g zero h = refl
+tab-ext f g (suc n) h = rw (tab-ext f g n (λ i l. h i (omega arith)), h n (omega arith))
+
+-- ---- a list l whose n places from s on are filled with f; the list so filled is m
+
+module _ (s : ℕ) (f : ℕ → Float) where
+  pub fillAt-none : (l : List Float) → l ≡ fillAt s f 0 l
+  unfolding fillAt tab
+  fillAt-none l = rw (add-zero, append-nil, take-append-drop)
+
+  module _ (n : ℕ) (l : List Float) where
+    -- what stands before the places that are left as they were
+    front-long : s ≤ length l → length (take s l ++ tab f n) ≡ s + n
+    front-long h = simp (length-append, length-tab, length-take-le s l h)
+
+    pub fillAt-ext : (g : ℕ → Float) → ((i : ℕ) → i < n → f i ≡ g i) → fillAt s f n l ≡ fillAt s g n l
+    unfolding fillAt
+    fillAt-ext g h = rw (tab-ext f g n h)
+
+    module _ {m : List Float} (e : m ≡ fillAt s f n l) where
+      pub fillAt-long : s + n ≤ length l → length m ≡ length l
+      unfolding fillAt
+      fillAt-long h = rw e (simp (length-append, length-tab, length-drop, length-take) (omega arith))
+
+      -- a store at the next place
+      pub fillAt-more : {v : Float} → v ≡ f n → s + n < length l → set m (s + n) v ≡ fillAt s f (n + 1) l
+      unfolding fillAt tab
+      fillAt-more e' h =
+          let k : length (take s l ++ tab f n) ≡ s + n = front-long (omega arith) in
+          rw (e, e', add-one, add-suc, drop-cons l (s + n) (f n), set-at _ _ _ _ _ k) (simp append-assoc)
+
+      pub fillAt-before : (i : ℕ) → i < s → s ≤ length l → m ! i ≡ l ! i
+      unfolding fillAt
+      fillAt-before i h k =
+          let q : length (take s l) ≡ s = length-take-le s l k in
+          let q' : length (take s l ++ tab f n) ≡ s + n = front-long k in
+          rw e
+          (List·getD-append (take s l ++ tab f n) _ nan i (omega arith)
+          ∙ List·getD-append (take s l) _ nan i (omega arith)
+          ∙ getD-take s l i nan h)
+
+      pub fillAt-past : (i : ℕ) → s + n ≤ i → s ≤ length l → m ! i ≡ l ! i
+      unfolding fillAt
+      fillAt-past i h k =
+          let j = i - (s + n) in
+          let w : s + n + j ≡ i = omega arith in
+          rw e
+          (rw (front-long k, w) at (getD-append-add (take s l ++ tab f n) (drop (s + n) l) j nan ∙ getD-drop (s + n) l j nan))
+
+    -- a store before the part
+    pub fillAt-set : (i : ℕ) (v : Float) → i < s → s ≤ length l → set (fillAt s f n l) i v ≡ fillAt s f n (set l i v)
+    unfolding fillAt
+    fillAt-set i v h k =
+        let q : length (take s l) ≡ s = length-take-le s l k in
+        let q' : length (take s l ++ tab f n) ≡ s + n = front-long k in
+        set-append-left (take s l ++ tab f n) _ i v (omega arith)
+        ∙ rw (set-append-left (take s l) (tab f n) i v (omega arith), take-set-lt s l i v h, drop-set-lt (s + n) l i v (omega arith))
+
+-- ---- places of a table of at most 16 rows and columns
+
+pub cell-below : (n i j : ℕ) → n ≤ 16 → i < n → j < n → i * n + j < 256
+cell-below n i j h hi hj = omega (arith, digits-lt hi hj, mul-le-mul h h)
+
+pub row-within : (n i : ℕ) → n ≤ 16 → i < n → i * n + n ≤ 256
+row-within n i h hi = omega (arith, mul-le-mul-right n hi, suc-mul i n, mul-le-mul h h)
+
+-- row i ends where a later row starts, or before
+pub row-before : (n i r : ℕ) → i < r → i * n + n ≤ r * n
+row-before n i r h = omega (arith, mul-le-mul-right n h, suc-mul i n)
