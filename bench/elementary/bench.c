@@ -17,14 +17,12 @@ enum { ARGUMENTS = 4096, TURNS = 1000, OURS = 0, RUST = 1, C = 2, RIVALS = 3 };
 double same_root(double x);
 double same_log(double x);
 double same_exp(double x);
-bool same_root_is_hardware(void);
 
 typedef double function(double);
 
 struct row {
     const char *name, *range;
     double low, high; /* equal: numbers above zero of every exponent */
-    bool has_latency;
     function *rival[RIVALS];
 };
 
@@ -103,13 +101,13 @@ static void print(const double best[RIVALS])
 int main(void)
 {
     static const struct row rows[] = {
-        {"exp", "[-40, 0]", -40, 0, true, {msar_exp, same_exp, exp}},
-        {"exp", "[-1, 1]", -1, 1, true, {msar_exp, same_exp, exp}},
-        {"exp", "[-700, 700]", -700, 700, true, {msar_exp, same_exp, exp}},
-        {"log", "[0, 1]", 0, 1, false, {msar_log, same_log, log}},
-        {"log", "wide", 0, 0, false, {msar_log, same_log, log}},
-        {"root", "[0, 10]", 0, 10, false, {msar_root, same_root, sqrt}},
-        {"root", "wide", 0, 0, false, {msar_root, same_root, sqrt}},
+        {"exp", "[-40, 0]", -40, 0, {msar_exp, same_exp, exp}},
+        {"exp", "[-1, 1]", -1, 1, {msar_exp, same_exp, exp}},
+        {"exp", "[-700, 700]", -700, 700, {msar_exp, same_exp, exp}},
+        {"log", "[0, 1]", 0, 1, {msar_log, same_log, log}},
+        {"log", "wide", 0, 0, {msar_log, same_log, log}},
+        {"root", "[0, 10]", 0, 10, {msar_root, same_root, sqrt}},
+        {"root", "wide", 0, 0, {msar_root, same_root, sqrt}},
     };
     double best[RIVALS];
 
@@ -128,13 +126,9 @@ int main(void)
         }
         printf("%-4s %-12s", rows[i].name, rows[i].range);
         print(best);
-        if (rows[i].has_latency) {
-            least(&rows[i], true, best);
-            print(best);
-        }
+        least(&rows[i], true, best);
+        print(best);
         printf("\n");
     }
-    if (same_root_is_hardware())
-        printf("For the root, Rust is the processor's instruction and not yet the same algorithm.\n");
     return 0;
 }
