@@ -1,23 +1,22 @@
--- Some roots, worked out.
-use mathlib.Core.Path.{_≡_, refl}
-use lib.Ieee.{ofBits, size}
-use Rattle.number.specs.Number.{float}
+-- Values of the root, computed from its definition; document 01's P12 is the first two. Assumes nothing.
+use mathlib.Core.List.{[], _∷_}
+use lib.Dec.{T}
+use lib.Ieee.{ofBits, toBits, size}
+use Rattle.number.specs.Values.{agrees, _gives_}
 use Rattle.rounding.specs.Units.{inUnits}
 use Rattle.root.specs.Root.{rootOf, rootPattern, nearestRoot, cut}
 
-pub root-of-four : rootOf (float 0x4010_0000_0000_0000) ≡ float 0x4000_0000_0000_0000
-unfolding rootOf rootPattern nearestRoot cut size inUnits ofBits
-root-of-four = refl
-
-pub root-of-two : rootOf (float 0x4000_0000_0000_0000) ≡ float 0x3FF6_A09E_667F_3BCD
-unfolding rootOf rootPattern nearestRoot cut size inUnits ofBits
-root-of-two = refl
-
--- the smallest above zero, 2 ^ -1074, and the largest, 2 ^ 1024 - 2 ^ 971
-pub root-of-smallest : rootOf (float 1) ≡ float 0x1E60_0000_0000_0000
-unfolding rootOf rootPattern nearestRoot cut size inUnits ofBits
-root-of-smallest = refl
-
-pub root-of-largest : rootOf (float 0x7FEF_FFFF_FFFF_FFFF) ≡ float 0x5FEF_FFFF_FFFF_FFFF
-unfolding rootOf rootPattern nearestRoot cut size inUnits ofBits
-root-of-largest = refl
+pub root-values : T (agrees rootOf (
+    0x4010_0000_0000_0000 gives 0x4000_0000_0000_0000  -- 4 and 2
+    ∷ 0x4000_0000_0000_0000 gives 0x3FF6_A09E_667F_3BCD
+    ∷ 0x0000_0000_0000_0001 gives 0x1E60_0000_0000_0000  -- the smallest number above zero, 2 ^ -1074, and the largest, 2 ^ 1024 - 2 ^ 971
+    ∷ 0x7FEF_FFFF_FFFF_FFFF gives 0x5FEF_FFFF_FFFF_FFFF
+    ∷ 0x0000_0000_0000_0000 gives 0x0000_0000_0000_0000  -- zeros keep their signs
+    ∷ 0x8000_0000_0000_0000 gives 0x8000_0000_0000_0000
+    ∷ 0xBFF0_0000_0000_0000 gives 0x7FF8_0000_0000_0000  -- a number below zero, infinities, NaN
+    ∷ 0x7FF0_0000_0000_0000 gives 0x7FF0_0000_0000_0000
+    ∷ 0xFFF0_0000_0000_0000 gives 0x7FF8_0000_0000_0000
+    ∷ 0x7FF8_0000_0000_0000 gives 0x7FF8_0000_0000_0000
+    ∷ []))
+unfolding rootOf rootPattern nearestRoot cut size inUnits ofBits toBits
+root-values = tt
