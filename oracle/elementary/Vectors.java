@@ -96,7 +96,8 @@ public final class Vectors {
             double x = Double.longBitsToDouble(bits);
             in.append(String.format("%016x\n", bits));
             out.append(pattern(x)).append(' ').append(pattern(StrictMath.sqrt(x))).append(' ');
-            out.append(pattern(StrictMath.log(x))).append(' ').append(pattern(StrictMath.exp(x))).append('\n');
+            out.append(pattern(StrictMath.log(x))).append(' ').append(pattern(StrictMath.exp(x))).append(' ');
+            out.append(pattern(-0.5 * x * x - 0.91893853320467274178)).append('\n');
         }
         Files.write(Path.of(args[0], "stdin"), in.toString().getBytes(StandardCharsets.US_ASCII));
         Files.write(Path.of(args[0], "stdout"), out.toString().getBytes(StandardCharsets.US_ASCII));

@@ -1,7 +1,7 @@
-// Answers bit patterns with the root, the logarithm and the exponential, so that the gate compares them with an outside
-// judge's. Standard input: lines of 16 hexadecimal digits, each a binary64. Standard output: for each a line
-// `x root log exp`, 16 digits each, every NaN as 7ff8000000000000; or `bad line N`, which ends the run.
-// A line has 17 bytes with its end, an answer 68, and a block is 240 lines: 4080 bytes in, 16320 out. Since every line
+// Answers bit patterns with the root, the logarithm, the exponential and the normal log density, so that the gate
+// compares them with an outside judge's. Standard input: lines of 16 hexadecimal digits, each a binary64. Standard output: for each a line
+// `x root log exp lnpdf`, 16 digits each, every NaN as 7ff8000000000000; or `bad line N`, which ends the run.
+// A line has 17 bytes with its end, an answer 85, and a block is 240 lines: 4080 bytes in, 20400 out. Since every line
 // but a bad one has the same length, a block begins where a line does.
 ghost use Prim.Native.Nat.{_+_, _≤_, _<_, _^_};
 
@@ -41,8 +41,8 @@ fn line(text: &[u8; 4080], at: usize) -> Got
 }
 
 // Puts 16 digits and the byte that ends them at `at`.
-fn put(n: u64, end: u8, out: &mut [u8; 16320], at: usize)
-    requires { ⌜ at + 17 ≤ 16320 ⌝ }
+fn put(n: u64, end: u8, out: &mut [u8; 20400], at: usize)
+    requires { ⌜ at + 17 ≤ 20400 ⌝ }
 {
     let digits = b"0123456789abcdef";
     let mut rest = n;
@@ -56,18 +56,19 @@ fn put(n: u64, end: u8, out: &mut [u8; 16320], at: usize)
 }
 
 // Puts the answer for the pattern n at `at`.
-fn answer(n: u64, out: &mut [u8; 16320], at: usize)
-    requires { ⌜ at + 68 ≤ 16320 ⌝ }
+fn answer(n: u64, out: &mut [u8; 20400], at: usize)
+    requires { ⌜ at + 85 ≤ 20400 ⌝ }
 {
     let x = number::of_pattern(n);
     put(number::pattern(x), b' ', out, at);
     put(number::pattern(root::root(x)), b' ', out, at + 17);
     put(number::pattern(log::log(x)), b' ', out, at + 34);
-    put(number::pattern(exp::exp(x)), b'\n', out, at + 51);
+    put(number::pattern(exp::exp(x)), b' ', out, at + 51);
+    put(number::pattern(normal::lnpdf(x)), b'\n', out, at + 68);
 }
 
 // Answers the first `lines` lines of text, up to the first bad one, and says how many it answered.
-fn answers(text: &[u8; 4080], lines: usize, out: &mut [u8; 16320]) -> usize
+fn answers(text: &[u8; 4080], lines: usize, out: &mut [u8; 20400]) -> usize
     requires { ⌜ lines ≤ 240 ⌝ }
     ensures { λ r. ⌜ r ≤ lines ⌝ }
 {
@@ -76,15 +77,15 @@ fn answers(text: &[u8; 4080], lines: usize, out: &mut [u8; 16320]) -> usize
         let Got::Pattern(n) = line(text, i * 17) else {
             return i;
         };
-        answer(n, out, i * 68);
+        answer(n, out, i * 85);
         i += 1;
     }
     i
 }
 
 // Writes the first n bytes of out.
-fn send(out: &[u8; 16320], n: usize) -> bool
-    requires { ⌜ n ≤ 16320 ⌝ }
+fn send(out: &[u8; 20400], n: usize) -> bool
+    requires { ⌜ n ≤ 20400 ⌝ }
 {
     let all: &[u8] = out;
     io::write_all(1, &all[0..n])
@@ -101,10 +102,10 @@ fn block(before: u64) -> bool
     requires { ⌜ before < 2 ^ 60 ⌝ }
 {
     let mut text = [0u8; 4080];
-    let mut out = [0u8; 16320];
+    let mut out = [0u8; 20400];
     let got = io::read_full(0, &mut text);
     let done = answers(&text, got / 17, &mut out);
-    if !send(&out, done * 68) {
+    if !send(&out, done * 85) {
         return false;
     }
     // bytes are left: a line that is bad, or cut off by the end of the input
