@@ -1,8 +1,8 @@
 /* The library's functions for C: link libc_interface.a, which `rt staticlib c_interface` writes. Each function is proved
    equal to its definition in Rattle; this file only says the same in C.
 
-   Every call returns, whatever the argument, and writes no memory. The rounding mode must be to nearest, as it is unless
-   the program changed it. Which NaN is returned is not fixed: its sign and payload may differ from call to call, so test
+   Every call returns, whatever the argument, and writes no memory. The rounding mode must be to nearest, and subnormal
+   numbers must not be flushed to zero (as -ffast-math does): both are so unless the program changed it. Which NaN is returned is not fixed: its sign and payload may differ from call to call, so test
    for a NaN and do not compare its bits. */
 #ifndef MSAR_H
 #define MSAR_H

@@ -3,6 +3,10 @@
 # oracle/elementary/vectors.sh [FOLDER]; FOLDER is crates/vectors where none is given.
 set -euo pipefail
 
+for tool in javac java; do
+    command -v "$tool" >/dev/null || { echo "$0: $tool is missing" >&2; exit 2; }
+done
+
 here=$(cd "$(dirname "${BASH_SOURCE[0]}")" && pwd)
 folder=${1:-$here/../../crates/vectors}
 room=$(mktemp -d)

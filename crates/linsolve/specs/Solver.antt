@@ -1,5 +1,6 @@
 -- The solver: Gaussian elimination of n equations with partial pivoting, then back-substitution. The table stands row by row in a list.
--- After Golub and Van Loan, Matrix Computations, algorithm 3.4.1, and document 01, "Solver" and refusal 21.
+-- After Golub and Van Loan, Matrix Computations, 4th edition: algorithm 3.4.1 (elimination with partial pivoting) and 3.1.2 (back-substitution by
+-- rows); the order of operations is that of `solve` in linsolve.rs, and document 01, "Solver" and refusal 21.
 -- c is the column that is cleared and the row its pivot goes to, i the row where the pivot is found, r any other row; d counts those done.
 use Prim.Native.Nat.{ℕ, zero, suc, _+_, _-_, _*_}
 use mathlib.Core.List.{List}
