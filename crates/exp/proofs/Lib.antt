@@ -8,4 +8,5 @@ pub mod Middle
 pub mod Size
 pub mod Reduced
 pub mod Top
+pub mod Over
 pub mod Signed

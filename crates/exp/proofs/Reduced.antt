@@ -54,7 +54,7 @@ pub record Made (s : Bool) (x : Float) (n : ℕ) (t y : Float) : Type 0 where
 pub far-few : (s : Bool) (x : Float) (n : ℕ) → Sized s x → n ≡ expWhole x (sgn s) → n ≤ 1120
 far-few s x n h e = subst (λ (z : ℕ). z ≤ 1120) (sym e) (far-sized s x h .n-le)
 
-y-at : {s : Bool} {x : Float} {n : ℕ} {t y : Float} → Made s x n t y → y ≡ farPart s x (ofInt binary64 (pos n))
+pub y-at : {s : Bool} {x : Float} {n : ℕ} {t y : Float} → Made s x n t y → y ≡ farPart s x (ofInt binary64 (pos n))
 y-at {s} {x} {n} {t} {y} m = m .y-is ∙ ap (farPart s x) (m .t-is)
 
 pub far-ready : {s : Bool} {x : Float} {n : ℕ} {t y : Float} → Sized s x → Made s x n t y → Ready y

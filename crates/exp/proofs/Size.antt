@@ -12,7 +12,7 @@ use lib.Ieee.{Float, nan, inf, fin, binary64, up, down, lt, ofBits, toBits, ofFi
 use lib.Ieee.Bits.{ofBits-toBits, toBits-lt}
 use lib.Ieee.Exact.{HasValue}
 use lib.Ieee.Positive.{through}
-use borrow.Author.Tests.{eq-eqb, ltb-false, leb-true, leb-false}
+use borrow.Author.Tests.{eq-eqb, le-ltb, ltb-false, leb-true, leb-false}
 use Rattle.number.specs.Number.{patternOf}
 use Rattle.rounding.specs.Bounds.{Within}
 use Rattle.rounding.proofs.Choose.{le-or-lt}
@@ -105,13 +105,22 @@ word-ge s m e w a d o h k = pattern-ge s m e (patternOf (fin s m e) % 2 ^ 63) (w
 
 -- ---- the tests of `exp` and of `exp_large`
 
+-- the overflow threshold is 6243314768165359 / 2 ^ 43
+not-over : (s : Bool) (m : ℕ) (e : ℤ) → m * up e * 2 ^ 43 ≤ 6243314768165359 * down e → lt overAt (fin s m e) ≡ false
+unfolding lt ofBits
+not-over false m e h = le-ltb (6243314768165359 * 1 * down e) (m * up e * 2 ^ 43) h
+not-over true m e h = refl
+
 -- below 709.78
-pub below-large : (x : Float) (hx s : ℕ) → T (fits binary64 x) → isNan x ≡ false → Split x hx s → hx < 0x4086_2e42 → Within x 746 1
+pub below-large : (x : Float) (hx s : ℕ) → T (fits binary64 x) → isNan x ≡ false → Split x hx s → hx < 0x4086_2e42 → Within x 746 1 × (lt overAt x ≡ false)
 unfolding isNan toBits
 below-large nan hx s f n p h = absurd (true≢false n)
 below-large (inf true) hx s f n p h = absurd (omega (arith, p .word))
 below-large (inf false) hx s f n p h = absurd (omega (arith, p .word))
-below-large (fin t m e) hx s f n p h = word-lt t m e 0x4086_2e42 746 1 (own t m e f) (subst (λ (z : ℕ). z < 0x4086_2e42) (p .word) h) (lit≤ tt)
+below-large (fin t m e) hx s f n p h =
+    let o = own t m e f in
+    let l = subst (λ (z : ℕ). z < 0x4086_2e42) (p .word) h in
+    (word-lt t m e 0x4086_2e42 746 1 o l (lit≤ tt), not-over t m e (word-lt t m e 0x4086_2e42 6243314768165359 (2 ^ 43) o l (lit≤ tt)))
 
 -- an infinity's digits are 0
 pub infinite : (x : Float) (hx s : ℕ) → T (fits binary64 x) → isNan x ≡ false → Split x hx s → 0x7ff0_0000 ≤ hx → patternOf x % 2 ^ 52 ≡ 0

@@ -40,7 +40,7 @@ third = float 0x3FD5_5555_5555_5555
 abbrev pub shift : ℕ → ℕ → Float
 shift a base = ofInt binary64 (minus a base)
 
--- |f| below 2 ^ -20
+-- |f| at most 2 ^ -20
 unfoldable pub logClose : Float → ℕ → ℕ → Float
 logClose f a base =
     let dk = shift a base in
@@ -57,7 +57,7 @@ logPoly z =
     let t2 = z ⊗ (logL ! 0 ⊕ w ⊗ (logL ! 2 ⊕ w ⊗ (logL ! 4 ⊕ w ⊗ logL ! 6))) in
     t2 ⊕ t1
 
--- 1 + f between 1.38 and 1.42, where f * f / 2 is taken apart
+-- the significand before halving between 1.38 and 1.42, where f * f / 2 is taken apart
 unfoldable pub logMid : Float → Float → Float → ℕ → ℕ → Float
 logMid f s R a base =
     let dk = shift a base in

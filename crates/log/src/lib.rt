@@ -30,7 +30,7 @@ fn shift(a: u32, base: u32) -> f64
     a as f64 - base as f64
 }
 
-// |f| below 2 ^ -20: three terms of the series are enough
+// |f| at most 2 ^ -20: three terms of the series are enough
 fn log_close(f: f64, a: u32, base: u32) -> f64
     ensures { λ r. ⌜ r ≡ logClose f a base ⌝ }
 {
@@ -59,7 +59,7 @@ fn log_poly(z: f64) -> f64
     t2 + t1
 }
 
-// 1 + f between 1.38 and 1.42: f * f / 2 is taken apart, for its rounding would count there
+// The significand before halving between 1.38 and 1.42, where f * f / 2 is taken apart: its rounding would count there.
 fn log_mid(f: f64, s: f64, r: f64, a: u32, base: u32) -> f64
     ensures { λ x. ⌜ x ≡ logMid f s r a base ⌝ }
 {
