@@ -19,7 +19,7 @@ use Rattle.rounding.proofs.Negate.{neg-round}
 use Rattle.rounding.proofs.Intervals.{Exact, Up, exact, wider, up-mul, up-add, within-round}
 use Rattle.rounding.proofs.Rounded.{rounded, exact-small, exact-signed}
 use Rattle.exp.specs.Exp.{invLn2, halves, ln2Hi, ln2Lo, signed, expWhole}
-use Rattle.exp.proofs.Reduce.{near, Near, I, H}
+use Rattle.exp.proofs.Reduce.{small-rest, SmallRest, I, H}
 
 -- the sign as the code has it
 abbrev pub sgn : Bool → ℕ
@@ -136,7 +136,7 @@ difference-is : (s : Bool) (m : ℕ) (e : ℤ) (k : ℕ) (g : ℤ) → fin s m e
 unfolding sub add neg
 difference-is s m e k g = refl
 
-pub difference-within : (s : Bool) (m : ℕ) (e : ℤ) (y : Float) (n : ℕ) → HasValue y s (n * H) (2 ^ 32) → Near n (m * up e) (down e) → Within (fin s m e ⊖ y) 384 1024
+pub difference-within : (s : Bool) (m : ℕ) (e : ℤ) (y : Float) (n : ℕ) → HasValue y s (n * H) (2 ^ 32) → SmallRest n (m * up e) (down e) → Within (fin s m e ⊖ y) 384 1024
 difference-within s m e nan n v w = absurd v
 difference-within s m e (inf r) n v w = absurd v
 difference-within s m e (fin r k g) n v w =
@@ -185,7 +185,7 @@ abbrev pub ratio : Bool → Float → Float
 ratio s x = signed (sgn s) (invLn2 ⊗ x ⊕ halves ! sgn s)
 
 record Whole (s : Bool) (m : ℕ) (e : ℤ) (n : ℕ) : Type 0 where
-  is : Near n (m * up e) (down e)
+  is : SmallRest n (m * up e) (down e)
   le : n ≤ 1120
   few : Few (ratio s (fin s m e))
 
@@ -208,7 +208,7 @@ whole-part s m e h =
     let c = cut-is (v .0 * up (v .1)) (down (v .1)) (down-pos (v .1)) in-v in
     subst (λ (n : ℕ). Whole s m e n) (sym (ap (toUnsigned 64) re))
     (record {
-      is = near _ (m * up e) (down e) (p .0 * up (p .1)) (down (p .1)) (v .0 * up (v .1)) (down (v .1)) (c .2) (p .3) (v .3) (c .0) (c .1);
+      is = small-rest _ (m * up e) (down e) (p .0 * up (p .1)) (down (p .1)) (v .0 * up (v .1)) (down (v .1)) (c .2) (p .3) (v .3) (c .0) (c .1);
       le = c .2;
       few = subst Few (sym re) (record { from = (refl, v .3 .at-least 1 2 (lit< tt) (exact-small 1 1 (lit< tt) (lit≤ tt)) (half-more (p .0 * up (p .1)) (down (p .1)))); within = in-v });
     })

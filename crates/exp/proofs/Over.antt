@@ -22,7 +22,7 @@ use Rattle.rounding.proofs.Choose.{le-or-lt}
 use Rattle.rounding.proofs.Signed.{le→units}
 use Rattle.rounding.proofs.Monotone.{add-monotone}
 use Rattle.rounding.proofs.Intervals.{Up, exact, up-mul, up-add}
-use Rattle.rounding.proofs.Pattern.{unitsOf, units-mono, pattern}
+use Rattle.rounding.proofs.Pattern.{patternUnits, units-mono, pattern}
 use Rattle.rounding.proofs.Field.{is-positive}
 use Rattle.exp.specs.Exp.{invLn2, halves, ln2Hi, ln2Lo, overAt, signed, expWhole}
 use Rattle.exp.specs.Range.{Sized}
@@ -83,7 +83,7 @@ one-pattern y f p h = elim (le-or-lt (patternOf y) (1023 * 2 ^ 52)) [
       absurd
       (lt-irrefl (2 ^ 1074)
       (lt-of-lt-of-le (lit< tt)
-      (le-trans (units-mono (1023 * 2 ^ 52 + 1) (patternOf y) (next (patternOf y) g)) (le→units y one (unitsOf (patternOf y)) (2 ^ 1074) (2 ^ 1074) (pow-pos 1074) (pattern y f p .value) one-value h))))
+      (le-trans (units-mono (1023 * 2 ^ 52 + 1) (patternOf y) (next (patternOf y) g)) (le→units y one (patternUnits (patternOf y)) (2 ^ 1074) (2 ^ 1074) (pow-pos 1074) (pattern y f p .value) one-value h))))
 ]
   where
     next : (b : ℕ) → 1023 * 2 ^ 52 < b → 1023 * 2 ^ 52 + 1 ≤ b

@@ -117,7 +117,7 @@ lower-3 a X D h =
     shuffle = ap (λ (z : ℕ). z * 1000000) (ap (λ (z : ℕ). a * z) (mul-comm (2 ^ 51) D) ∙ sym (mul-assoc a D (2 ^ 51))) ∙ mul-assoc (a * D) (2 ^ 51) 1000000
 
 -- |X / D - n * H / 2 ^ 32| ≤ 3 / 8
-pub record Near (n X D : ℕ) : Type 0 where
+pub record SmallRest (n X D : ℕ) : Type 0 where
   pub not-above : X * 2 ^ 32 * 8 ≤ n * H * D * 8 + 3 * (D * 2 ^ 32)
   pub not-below : n * H * D * 8 ≤ X * 2 ^ 32 * 8 + 3 * (D * 2 ^ 32)
 
@@ -136,8 +136,8 @@ below-2 : (w X D : ℕ) → w * 693148 * 8 ≤ X * 8000000 + 3000000 * D → w *
 unfolding H
 below-2 w X D h = omega arith
 
-near-above : (n X D P E G F : ℕ) → n ≤ 1120 → Rounded (I * X) (2 ^ 51 * D) P E → Rounded (P * 2 + E) (E * 2) G F → G < (n + 1) * F → X * 2 ^ 32 * 8 ≤ n * H * D * 8 + 3 * (D * 2 ^ 32)
-near-above n X D P E G F N r t h =
+rest-above : (n X D P E G F : ℕ) → n ≤ 1120 → Rounded (I * X) (2 ^ 51 * D) P E → Rounded (P * 2 + E) (E * 2) G F → G < (n + 1) * F → X * 2 ^ 32 * 8 ≤ n * H * D * 8 + 3 * (D * 2 ^ 32)
+rest-above n X D P E G F N r t h =
     let s = upper-3 (2 * n + 1) X D (upper-2 n X D P E (less n N) r (upper-1 n P E G F (less n N) t h)) in
     le-trans (above-2 (n * D) X D (above-1 (n * D) X D (mul-le-mul-right D N) (subst (λ (z : ℕ). X * 2000000 < z * 693148) (twice-and n D) s)))
     (le-of-eq (ap (λ (z : ℕ). z * 8 + 3 * (D * 2 ^ 32)) (mul-right-comm n D H)))
@@ -145,12 +145,12 @@ near-above n X D P E G F N r t h =
     less : (n : ℕ) → n ≤ 1120 → n < 2000
     less n h = omega arith
 
-near-below : (n X D P E G F : ℕ) → n ≤ 1120 → Rounded (I * X) (2 ^ 51 * D) P E → Rounded (P * 2 + E) (E * 2) G F → n * F ≤ G → n * H * D * 8 ≤ X * 2 ^ 32 * 8 + 3 * (D * 2 ^ 32)
-near-below zero X D P E G F N r t h = none (0 * H) D (X * 2 ^ 32 * 8 + 3 * (D * 2 ^ 32)) (zero-mul H)
+rest-below : (n X D P E G F : ℕ) → n ≤ 1120 → Rounded (I * X) (2 ^ 51 * D) P E → Rounded (P * 2 + E) (E * 2) G F → n * F ≤ G → n * H * D * 8 ≤ X * 2 ^ 32 * 8 + 3 * (D * 2 ^ 32)
+rest-below zero X D P E G F N r t h = none (0 * H) D (X * 2 ^ 32 * 8 + 3 * (D * 2 ^ 32)) (zero-mul H)
   where
     none : (a D b : ℕ) → a ≡ 0 → a * D * 8 ≤ b
     none a D b e = rw e (omega (arith, zero-mul D))
-near-below (suc k) X D P E G F N r t h =
+rest-below (suc k) X D P E G F N r t h =
     let s = lower-3 (1024 * k + 510) X D (lower-2 k X D P E (less k N) r (lower-1 k P E G F (less k N) t (subst (λ (z : ℕ). z * F ≤ G) (sym (add-one k)) h))) in
     le-trans (le-of-eq (ap (λ (z : ℕ). z * 8) (mul-right-comm (suc k) H D)))
     (below-2 (suc k * D) X D (below-1 (k * D) (suc k * D) X D (suc-mul k D) (mul-le-mul-right D N) (subst (λ (z : ℕ). z * 693147 < X * 1024000000) (split k D) s)))
@@ -161,5 +161,5 @@ near-below (suc k) X D P E G F N r t h =
     split : (k f : ℕ) → (1024 * k + 510) * f ≡ 1024 * (k * f) + 510 * f
     split k f = add-mul (1024 * k) 510 f ∙ ap (λ (z : ℕ). z + 510 * f) (mul-assoc 1024 k f)
 
-pub near : (n X D P E G F : ℕ) → n ≤ 1120 → Rounded (I * X) (2 ^ 51 * D) P E → Rounded (P * 2 + E) (E * 2) G F → n * F ≤ G → G < (n + 1) * F → Near n X D
-near n X D P E G F N r t l u = record { not-above = near-above n X D P E G F N r t u; not-below = near-below n X D P E G F N r t l }
+pub small-rest : (n X D P E G F : ℕ) → n ≤ 1120 → Rounded (I * X) (2 ^ 51 * D) P E → Rounded (P * 2 + E) (E * 2) G F → n * F ≤ G → G < (n + 1) * F → SmallRest n X D
+small-rest n X D P E G F N r t l u = record { not-above = rest-above n X D P E G F N r t u; not-below = rest-below n X D P E G F N r t l }

@@ -16,7 +16,7 @@ use Rattle.rounding.proofs.Intervals.{Up}
 use Rattle.exp.specs.Exp.{ln2Hi, ln2Lo, twoM1000, signed, expPart, expScale, expWhole, expFar}
 use Rattle.exp.specs.Range.{Split, Sized}
 use Rattle.exp.proofs.Part.{part-bound, part-fits}
-use Rattle.exp.proofs.Reduce.{Near, H}
+use Rattle.exp.proofs.Reduce.{SmallRest, H}
 use Rattle.exp.proofs.Far.{sgn, Far, far, difference-within}
 use Rattle.exp.proofs.Middle.{Middle, middle, number-within}
 use Rattle.exp.proofs.Size.{own, word-lt, word-ge}
@@ -88,12 +88,12 @@ unfolding ofBits
 lo-up false = record { pos = lit< tt; is = lit≤ tt }
 lo-up true = record { pos = lit< tt; is = lit≤ tt }
 
-one-near : (X D : ℕ) → X * 1024 ≤ 1093 * D → 327 * D ≤ X * 1024 → Near 1 X D
+one-rest : (X D : ℕ) → X * 1024 ≤ 1093 * D → 327 * D ≤ X * 1024 → SmallRest 1 X D
 unfolding H
-one-near X D h k = record { not-above = omega arith; not-below = omega arith }
+one-rest X D h k = record { not-above = omega arith; not-below = omega arith }
 
 near-at : (s : Bool) (m : ℕ) (e : ℤ) → m * up e * 1024 ≤ 1093 * down e → 327 * down e ≤ m * up e * 1024 → Ready (expPart (fin s m e ⊖ ln2Hi ! sgn s) (ln2Lo ! sgn s))
-near-at s m e h k = ready _ _ (record { pos = lit< tt; is = difference-within s m e (ln2Hi ! sgn s) 1 (hi-value s) (one-near (m * up e) (down e) h k) }) (lo-up s)
+near-at s m e h k = ready _ _ (record { pos = lit< tt; is = difference-within s m e (ln2Hi ! sgn s) 1 (hi-value s) (one-rest (m * up e) (down e) h k) }) (lo-up s)
 
 sgn-two : (s : Bool) → sgn s < 2
 sgn-two false = lit< tt

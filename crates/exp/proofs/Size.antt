@@ -16,7 +16,7 @@ use borrow.Author.Tests.{eq-eqb, le-ltb, ltb-false, leb-true, leb-false}
 use Rattle.number.specs.Number.{patternOf}
 use Rattle.rounding.specs.Bounds.{Within}
 use Rattle.rounding.proofs.Choose.{le-or-lt}
-use Rattle.rounding.proofs.Pattern.{unitsAt, unitsOf, units-mono, bits-value-signed, mod-63}
+use Rattle.rounding.proofs.Pattern.{unitsAt, patternUnits, units-mono, bits-value-signed, mod-63}
 use Rattle.exp.specs.Exp.{overAt, underAt}
 use Rattle.exp.specs.Range.{Split, Sized}
 use Rattle.exp.proofs.Far.{sgn}
@@ -66,7 +66,7 @@ sign-bit true b h e = go b h (leb-true (2 ^ 63) b (sym e))
 -- x is `fin s m e`: its pattern less the sign, and its sign bit
 pub record Own (s : Bool) (m : ℕ) (e : ℤ) : Type 0 where
   pub below : patternOf (fin s m e) % 2 ^ 63 < 0x7ff0_0000_0000_0000
-  pub value : HasValue (fin s m e) s (unitsOf (patternOf (fin s m e) % 2 ^ 63)) (2 ^ 1074)
+  pub value : HasValue (fin s m e) s (patternUnits (patternOf (fin s m e) % 2 ^ 63)) (2 ^ 1074)
   pub sign : patternOf (fin s m e) / 2 ^ 63 ≡ sgn s
 
 pub own : (s : Bool) (m : ℕ) (e : ℤ) → T (fits binary64 (fin s m e)) → Own s m e
@@ -84,20 +84,20 @@ own s m e f =
 
 -- ---- a bound on the pattern is one on the size: c is a pattern, a / d its number or a neighbour of that
 
-pattern-le : (s : Bool) (m : ℕ) (e : ℤ) (b c a d : ℕ) → HasValue (fin s m e) s (unitsOf b) (2 ^ 1074) → b ≤ c → unitsOf c * d ≤ a * 2 ^ 1074 → m * up e * d ≤ a * down e
-pattern-le s m e b c a d v h k = through (m * up e) (unitsOf b) a (down e) (2 ^ 1074) d (pow-pos 1074) (le-of-eq (v .1)) (le-trans (mul-le-mul-right d (units-mono b c h)) k)
+pattern-le : (s : Bool) (m : ℕ) (e : ℤ) (b c a d : ℕ) → HasValue (fin s m e) s (patternUnits b) (2 ^ 1074) → b ≤ c → patternUnits c * d ≤ a * 2 ^ 1074 → m * up e * d ≤ a * down e
+pattern-le s m e b c a d v h k = through (m * up e) (patternUnits b) a (down e) (2 ^ 1074) d (pow-pos 1074) (le-of-eq (v .1)) (le-trans (mul-le-mul-right d (units-mono b c h)) k)
 
-pattern-ge : (s : Bool) (m : ℕ) (e : ℤ) (b c a d : ℕ) → HasValue (fin s m e) s (unitsOf b) (2 ^ 1074) → c ≤ b → a * 2 ^ 1074 ≤ unitsOf c * d → a * down e ≤ m * up e * d
-pattern-ge s m e b c a d v h k = through a (unitsOf b) (m * up e) d (2 ^ 1074) (down e) (pow-pos 1074) (le-trans k (mul-le-mul-right d (units-mono c b h))) (le-of-eq (sym (v .1)))
+pattern-ge : (s : Bool) (m : ℕ) (e : ℤ) (b c a d : ℕ) → HasValue (fin s m e) s (patternUnits b) (2 ^ 1074) → c ≤ b → a * 2 ^ 1074 ≤ patternUnits c * d → a * down e ≤ m * up e * d
+pattern-ge s m e b c a d v h k = through a (patternUnits b) (m * up e) d (2 ^ 1074) (down e) (pow-pos 1074) (le-trans k (mul-le-mul-right d (units-mono c b h))) (le-of-eq (sym (v .1)))
 
 -- the same for the high word w
-pub word-lt : (s : Bool) (m : ℕ) (e : ℤ) (w a d : ℕ) → Own s m e → patternOf (fin s m e) % 2 ^ 63 / 2 ^ 32 < w → unitsOf (w * 2 ^ 32) * d ≤ a * 2 ^ 1074 → m * up e * d ≤ a * down e
+pub word-lt : (s : Bool) (m : ℕ) (e : ℤ) (w a d : ℕ) → Own s m e → patternOf (fin s m e) % 2 ^ 63 / 2 ^ 32 < w → patternUnits (w * 2 ^ 32) * d ≤ a * 2 ^ 1074 → m * up e * d ≤ a * down e
 word-lt s m e w a d o h k = pattern-le s m e (patternOf (fin s m e) % 2 ^ 63) (w * 2 ^ 32) a d (o .value) (go (patternOf (fin s m e) % 2 ^ 63) w h) k
   where
     go : (b w : ℕ) → b / 2 ^ 32 < w → b ≤ w * 2 ^ 32
     go b w h = omega arith
 
-pub word-ge : (s : Bool) (m : ℕ) (e : ℤ) (w a d : ℕ) → Own s m e → w ≤ patternOf (fin s m e) % 2 ^ 63 / 2 ^ 32 → a * 2 ^ 1074 ≤ unitsOf (w * 2 ^ 32) * d → a * down e ≤ m * up e * d
+pub word-ge : (s : Bool) (m : ℕ) (e : ℤ) (w a d : ℕ) → Own s m e → w ≤ patternOf (fin s m e) % 2 ^ 63 / 2 ^ 32 → a * 2 ^ 1074 ≤ patternUnits (w * 2 ^ 32) * d → a * down e ≤ m * up e * d
 word-ge s m e w a d o h k = pattern-ge s m e (patternOf (fin s m e) % 2 ^ 63) (w * 2 ^ 32) a d (o .value) (go (patternOf (fin s m e) % 2 ^ 63) w h) k
   where
     go : (b w : ℕ) → w ≤ b / 2 ^ 32 → w * 2 ^ 32 ≤ b

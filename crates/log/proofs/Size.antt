@@ -18,7 +18,7 @@ use Rattle.number.specs.Number.{_⊖_, _⊗_, patternOf, float, one}
 use Rattle.rounding.specs.Bounds.{Within}
 use Rattle.rounding.proofs.Choose.{le-or-lt}
 use Rattle.rounding.proofs.Intervals.{Exact, Up, within-round}
-use Rattle.rounding.proofs.Pattern.{unitsAt, unitsOf, units-mono, units-of, bits-value, Pattern, pattern}
+use Rattle.rounding.proofs.Pattern.{unitsAt, patternUnits, units-mono, units-of, bits-value, Pattern, pattern}
 use Rattle.log.specs.Log.{shift, two54, logNormal, logOf}
 use Rattle.log.proofs.Bound.{pick, close-up, far-up}
 
@@ -45,7 +45,7 @@ apart A B D P h k = go (ltb A B)
     go true = within-round true (B - A) D 7 16 P (lit< tt) (omega arith) exact-7/16
     go false = within-round false (A - B) D 7 16 P (lit< tt) (omega arith) exact-7/16
 
-from-one : (y : Float) (p : ℕ) → HasValue y false (unitsOf p) (2 ^ 1074) → 0x3fe6_a09c * 2 ^ 32 ≤ p → p ≤ 0x3ff6_a09c * 2 ^ 32 → Within (y ⊖ one) 7 16
+from-one : (y : Float) (p : ℕ) → HasValue y false (patternUnits p) (2 ^ 1074) → 0x3fe6_a09c * 2 ^ 32 ≤ p → p ≤ 0x3ff6_a09c * 2 ^ 32 → Within (y ⊖ one) 7 16
 unfolding sub add neg ofBits
 from-one nan p v h k = absurd v
 from-one (inf r) p v h k = absurd v
@@ -53,9 +53,9 @@ from-one (fin true m e) p v h k = absurd (true≢false (v .0))
 from-one (fin false m e) p v h k =
     apart (m * up e * 1) (1 * 1 * down e) (down e * 1) (mul-pos (down-pos e) (lit< tt))
     (above (m * up e) (down e)
-    (through (m * up e) (unitsOf p) 1449 (down e) (2 ^ 1074) 1024 (pow-pos 1074) (le-of-eq (v .1)) (le-trans (mul-le-mul-right 1024 (units-mono p (0x3ff6_a09c * 2 ^ 32) k)) (lit≤ tt))))
+    (through (m * up e) (patternUnits p) 1449 (down e) (2 ^ 1074) 1024 (pow-pos 1074) (le-of-eq (v .1)) (le-trans (mul-le-mul-right 1024 (units-mono p (0x3ff6_a09c * 2 ^ 32) k)) (lit≤ tt))))
     (below (m * up e) (down e)
-    (through 724 (unitsOf p) (m * up e) 1024 (2 ^ 1074) (down e) (pow-pos 1074) (le-trans (lit≤ tt) (mul-le-mul-right 1024 (units-mono (0x3fe6_a09c * 2 ^ 32) p h))) (le-of-eq (sym (v .1)))))
+    (through 724 (patternUnits p) (m * up e) 1024 (2 ^ 1074) (down e) (pow-pos 1074) (le-trans (lit≤ tt) (mul-le-mul-right 1024 (units-mono (0x3fe6_a09c * 2 ^ 32) p h))) (le-of-eq (sym (v .1)))))
   where
     above : (X D : ℕ) → X * 1024 ≤ 1449 * D → X * 1 * 16 ≤ 1 * 1 * D * 16 + 7 * (D * 1)
     above X D h = omega arith
@@ -96,7 +96,7 @@ two54-value : HasValue two54 false (2 ^ 54) 1
 unfolding ofBits
 two54-value = (refl, refl)
 
-field-three : (b : ℕ) → 2 ^ 54 ≤ unitsOf b → 3 * 2 ^ 52 ≤ b
+field-three : (b : ℕ) → 2 ^ 54 ≤ patternUnits b → 3 * 2 ^ 52 ≤ b
 field-three b h = elim (le-or-lt (3 * 2 ^ 52) b) [
   | inl l ↦ l
   | inr l ↦ absurd (not-le-of-lt (lt-of-le-of-lt (units-mono b (3 * 2 ^ 52 - 1) (omega arith)) (lit< tt)) h)
@@ -113,10 +113,10 @@ low-up x t p h =
     let y : Float = x ⊗ two54 in
     let v = scaled-value x (patternOf x) t h (subst (λ (w : ℕ). HasValue x false w (2 ^ 1074)) (whole (patternOf x) h) (p .value)) in
     let q = pattern y (mul-fits binary64 x two54) (positive-of-value y (patternOf x * 2 ^ 54) (2 ^ 1074) v (mul-pos (p .some) (lit< tt))) in
-    let u : unitsOf (patternOf y) ≡ patternOf x * 2 ^ 54 = sym (units-of y _ (q .value)) ∙ units-of y _ v in
+    let u : patternUnits (patternOf y) ≡ patternOf x * 2 ^ 54 = sym (units-of y _ (q .value)) ∙ units-of y _ v in
     normal-up (patternOf y) 1077 (most (patternOf y) (q .below)) (least (patternOf y) (field-three (patternOf y) (subst (λ (w : ℕ). 2 ^ 54 ≤ w) (sym u) (some (patternOf x) (p .some)))))
   where
-    whole : (b : ℕ) → b < 2 ^ 52 → unitsOf b ≡ b
+    whole : (b : ℕ) → b < 2 ^ 52 → patternUnits b ≡ b
     whole b h = ap (λ (i : ℕ). unitsAt i (b % 2 ^ 52)) (none b h) ∙ all b h
       where
         none : (b : ℕ) → b < 2 ^ 52 → b / 2 ^ 52 ≡ 0

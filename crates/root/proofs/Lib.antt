@@ -1,4 +1,4 @@
-pub mod Near
+pub mod WholeRoot
 pub mod Digits
 pub mod Parts
 pub mod Scaled

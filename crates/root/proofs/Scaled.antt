@@ -10,7 +10,7 @@ use lib.Ieee.{binary64, size, ofBits}
 use lib.Ieee.Digits.{size-lt, size-le}
 use Rattle.number.specs.Number.{float}
 use Rattle.rounding.proofs.Pattern.{unitsAt, bits-value, units-of}
-use Rattle.root.specs.Root.{rootSquare, dropped, nearestRoot, rootPattern}
+use Rattle.root.specs.Root.{rootSquare, dropped, wholeRoot, rootPattern}
 
 -- n is sig * 2 ^ (50 + ex), and sig has 53 digits
 pub record Scaled (n sig ex : ℕ) : Type 0 where
@@ -141,10 +141,10 @@ module _ (sig ex : ℕ) (from : 2 ^ 52 ≤ sig) (below : sig < 2 ^ 53) (some : 2
       halved : (z : ℕ) → z ≡ 53 + (50 + ex) → (z - 105) / 2 ≡ ex / 2 - 1
       halved z e = omega arith
 
-  pub pattern-of : rootPattern (sig * 2 ^ (50 + ex)) ≡ (ex / 2 - 1) * 2 ^ 52 + nearestRoot (sig * 2 ^ (ex % 2) * 2 ^ 52)
+  pub pattern-of : rootPattern (sig * 2 ^ (50 + ex)) ≡ (ex / 2 - 1) * 2 ^ 52 + wholeRoot (sig * 2 ^ (ex % 2) * 2 ^ 52)
   unfolding rootPattern
   pattern-of =
       let k = ex / 2 - 1 in
-      ap (λ (z : ℕ). z * 2 ^ 52 + nearestRoot (sig * 2 ^ (50 + ex) / 4 ^ z)) drops
-      ∙ ap (λ (z : ℕ). k * 2 ^ 52 + nearestRoot (z / 4 ^ k)) (sym split)
-      ∙ ap (λ (z : ℕ). k * 2 ^ 52 + nearestRoot z) (mul-div-cancel (sig * 2 ^ (ex % 2) * 2 ^ 52) (one-le-pow k 4 (lit< tt)))
+      ap (λ (z : ℕ). z * 2 ^ 52 + wholeRoot (sig * 2 ^ (50 + ex) / 4 ^ z)) drops
+      ∙ ap (λ (z : ℕ). k * 2 ^ 52 + wholeRoot (z / 4 ^ k)) (sym split)
+      ∙ ap (λ (z : ℕ). k * 2 ^ 52 + wholeRoot z) (mul-div-cancel (sig * 2 ^ (ex % 2) * 2 ^ 52) (one-le-pow k 4 (lit< tt)))

@@ -14,7 +14,7 @@ use lib.Ieee.Positive.{positive, through}
 use Rattle.rounding.specs.Bounds.{Within, From}
 use Rattle.rounding.proofs.Choose.{le-or-lt}
 use Rattle.rounding.proofs.Intervals.{not-zero}
-use Rattle.rounding.proofs.Pattern.{unitsAt, unitsOf, units-lt, units-ge, pattern}
+use Rattle.rounding.proofs.Pattern.{unitsAt, patternUnits, units-lt, units-ge, pattern}
 
 -- the bounds in units of 2 ^ -1074
 from-units : (y : Float) (w a c : ℕ) → HasValue y false w (2 ^ 1074) → From false y a c → a * 2 ^ 1074 ≤ w * c
@@ -39,7 +39,7 @@ field-above y a c x f A C h k = elim (le-or-lt (b / 2 ^ 52) x) [
   | inl l ↦
       absurd
       (lt-irrefl (a * 2 ^ 1074)
-      (lt-of-le-of-lt (from-units y (unitsOf b) a c (pattern y f (is-positive y a c A h) .value) h)
+      (lt-of-le-of-lt (from-units y (patternUnits b) a c (pattern y f (is-positive y a c A h) .value) h)
       (lt-of-lt-of-le (mul-lt-mul-of-pos-right (lt-of-lt-of-le (units-lt (b / 2 ^ 52) (b % 2 ^ 52) (rest b)) (pow-mono (sums (b / 2 ^ 52) x l))) C) k)))
   | inr g ↦ g
 ]
@@ -60,7 +60,7 @@ field-within y a c x f p C h k = elim (le-or-lt (b / 2 ^ 52) x) [
   | inr g ↦
       absurd
       (lt-irrefl (a * 2 ^ 1074)
-      (lt-of-lt-of-le k (le-trans (mul-le-mul-right c (larger (b / 2 ^ 52) (b % 2 ^ 52) g)) (within-units y (unitsOf b) a c (pattern y f p .value) h))))
+      (lt-of-lt-of-le k (le-trans (mul-le-mul-right c (larger (b / 2 ^ 52) (b % 2 ^ 52) g)) (within-units y (patternUnits b) a c (pattern y f p .value) h))))
 ]
   where
     b : ℕ

@@ -115,8 +115,8 @@ bits-value-signed b h = fields-value (leb (2 ^ 63) b) (b % 2 ^ 63 / 2 ^ 52) (b %
 -- ---- a larger pattern is a larger number
 
 -- the units of the number with the pattern b, whose sign is clear
-abbrev pub unitsOf : ℕ → ℕ
-unitsOf b = unitsAt (b / 2 ^ 52) (b % 2 ^ 52)
+abbrev pub patternUnits : ℕ → ℕ
+patternUnits b = unitsAt (b / 2 ^ 52) (b % 2 ^ 52)
 
 -- a field of x stands for less than 2 ^ (52 + x) units
 pub units-lt : (x t : ℕ) → t < 2 ^ 52 → unitsAt x t < 2 ^ (52 + x)
@@ -159,8 +159,8 @@ fields-mono x y t u T k h = elim (eq-or-lt-of-le h) [
         sums : (x y : ℕ) → x < suc y → 52 + x ≤ 52 + y
         sums x y l = omega arith
 
--- b ≤ c gives unitsOf b ≤ unitsOf c
-pub units-mono : (b c : ℕ) → b ≤ c → unitsOf b ≤ unitsOf c
+-- b ≤ c gives patternUnits b ≤ patternUnits c
+pub units-mono : (b c : ℕ) → b ≤ c → patternUnits b ≤ patternUnits c
 units-mono b c h = fields-mono (b / 2 ^ 52) (c / 2 ^ 52) (b % 2 ^ 52) (c % 2 ^ 52) (in-52 b) (tail b c h) (head b c h)
   where
     in-52 : (b : ℕ) → b % 2 ^ 52 < 2 ^ 52
