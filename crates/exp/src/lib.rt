@@ -143,6 +143,7 @@ fn exp_large(x: f64, hx: u64, s: usize) -> f64
     exp_reduce(x, hx, s)
 }
 
+// e to the power x: +0 at -infinity, infinity of infinity, a NaN of a NaN.
 pub fn exp(x: f64) -> f64
     ensures { λ r. ⌜ r ≡ expOf x ⌝ }
 {

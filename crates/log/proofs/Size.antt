@@ -19,14 +19,14 @@ use Rattle.rounding.specs.Bounds.{Within}
 use Rattle.rounding.proofs.Choose.{le-or-lt}
 use Rattle.rounding.proofs.Intervals.{Exact, Up, within-round}
 use Rattle.rounding.proofs.Pattern.{unitsAt, patternUnits, units-mono, units-of, bits-value, Pattern, pattern}
-use Rattle.log.specs.Log.{shift, two54, logNormal, logOf}
+use Rattle.log.specs.Log.{dkOf, two54, logNormal, logOf}
 use Rattle.log.proofs.Bound.{pick, close-up, far-up}
 
 -- ---- k
 
-shift-up : (a base : ℕ) → a ≤ base + 1075 → base ≤ a + 1075 → Up (shift a base) 1075 1
+dk-up : (a base : ℕ) → a ≤ base + 1075 → base ≤ a + 1075 → Up (dkOf a base) 1075 1
 unfolding ofInt
-shift-up a base h k = elim (le-or-lt base a) [
+dk-up a base h k = elim (le-or-lt base a) [
   | inl l ↦ rw (le-leb base a l) (record { pos = lit< tt; is = within-round false (a - base) 1 1075 1 (lit< tt) (lit< tt) (omega arith) (round-whole binary64 false 1075 (lit≤ tt)) })
   | inr l ↦ rw (lt-leb base a l) (record { pos = lit< tt; is = within-round true (suc (base - suc a)) 1 1075 1 (lit< tt) (lit< tt) (omega arith) (round-whole binary64 false 1075 (lit≤ tt)) })
 ]
@@ -74,7 +74,7 @@ normal-up b base h k =
     let m : ℕ = b / 2 ^ 32 % 2 ^ 20 in
     let j : ℕ = (m + 0x9_5f64) / 2 ^ 20 in
     let a : ℕ = b / 2 ^ 52 + j in
-    let dk = shift-up a base (most b base h) (least b base k) in
+    let dk = dk-up a base (most b base h) (least b base k) in
     let f = f-up ((0x3ff - j) * 2 ^ 52 + b % 2 ^ 52) (low b) (high b) in
     pick (ltb ((m + 2) % 2 ^ 20) 3) (close-up a base dk _ f) (far-up a base dk _ m f)
   where
@@ -136,9 +136,9 @@ low-up x t p h =
 
 -- ---- every number above zero
 
-pub log-size : (x : Float) → T (fits binary64 x) → T (positive x) → Up (logOf x) 746 1
+log-up : (x : Float) → T (fits binary64 x) → T (positive x) → Up (logOf x) 746 1
 unfolding logOf
-log-size x f p =
+log-up x f p =
     let w = pattern x f p in
     let b : ℕ = patternOf x in
     rw (ne-eqb (b % 2 ^ 63) 0 (some b (w .below) (w .some)), lt-leb (2 ^ 63) b (half b (w .below)), lt-leb 0x7ff0_0000_0000_0000 b (w .below))
@@ -159,10 +159,13 @@ log-size x f p =
     lo : (b : ℕ) → 1023 ≤ b / 2 ^ 52 + 1075
     lo b = omega arith
 
+pub log-size : (x : Float) → T (fits binary64 x) → T (positive x) → Within (logOf x) 746 1
+log-size x f p = log-up x f p .is
+
 within-finite : (x : Float) (a c : ℕ) → Within x a c → T (finite x)
 within-finite nan a c w = w
 within-finite (inf s) a c w = w
 within-finite (fin s m e) a c w = tt
 
 pub log-finite : (x : Float) → T (fits binary64 x) → T (positive x) → T (finite (logOf x))
-log-finite x f p = within-finite (logOf x) 746 1 (log-size x f p .is)
+log-finite x f p = within-finite (logOf x) 746 1 (log-size x f p)
