@@ -10,10 +10,10 @@ use lib.Dec.{T, lit<, lit≤}
 use lib.IntN.{ℤ, pos, negsuc}
 use lib.Ieee.{Float, nan, inf, fin, binary64, up, down, add, mul, round, lt, le, ofBits, toBits, fits, isNan}
 use lib.Ieee.Exact.{HasValue}
-use Rattle.number.specs.Number.{_⊕_, _⊖_, _⊗_, _⊘_, float, patternOf, one, two}
+use Rattle.number.specs.Number.{_⊕_, _⊖_, _⊗_, _⊘_, float, patternOf, one, two, zero⁺}
 use Rattle.number.specs.Table.{_!_}
 use Rattle.rounding.specs.Bounds.{Within}
-use Rattle.rounding.specs.Signed.{+0, Signed}
+use Rattle.rounding.specs.Signed.{Signed}
 use Rattle.rounding.proofs.Choose.{le-or-lt}
 use Rattle.rounding.proofs.Signed.{zero-le-plus}
 use Rattle.rounding.proofs.Round.{round-signed}
@@ -187,5 +187,5 @@ exp-number x f h = go (expOf x) (exp-signed x f h)
     go (inf t) s = unfold isNan in tt
     go (fin t m e) s = unfold isNan in tt
 
-pub exp-nonneg : (x : Float) → T (fits binary64 x) → T (not (isNan x)) → T (le +0 (expOf x))
+pub exp-nonneg : (x : Float) → T (fits binary64 x) → T (not (isNan x)) → T (le zero⁺ (expOf x))
 exp-nonneg x f h = zero-le-plus (expOf x) (exp-signed x f h)

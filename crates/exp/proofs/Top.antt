@@ -11,9 +11,9 @@ use lib.Ieee.{Float, fin, binary64, neg, add, sub, le, ofBits, fits, isNan, size
 use lib.Ieee.Fits.{sub-fits, div-fits}
 use lib.Ieee.Exact.{HasValue}
 use lib.Ieee.Digits.{size-lt, size-le, size-reaches}
-use Rattle.number.specs.Number.{_⊖_, _⊗_, _⊘_, one, two}
+use Rattle.number.specs.Number.{_⊖_, _⊗_, _⊘_, one, two, zero⁺}
 use Rattle.rounding.specs.Bounds.{Within}
-use Rattle.rounding.specs.Signed.{+0, plusPart, minusPart}
+use Rattle.rounding.specs.Signed.{plusPart, minusPart}
 use Rattle.rounding.proofs.Signed.{le→at-most}
 use Rattle.rounding.proofs.Order.{le-neg}
 use Rattle.rounding.proofs.Round.{round-zero}
@@ -98,15 +98,16 @@ quotient-within x c k K h u l =
 pub number : (x : Float) (a c : ℕ) → Within x a c → T (not (isNan x))
 number x a c w = subst (λ (b : Bool). T (not b)) (sym (number-within x a c w)) tt
 
-one-less : (z : Float) (a c : ℕ) → T (le +0 z) → Within (one ⊖ z) a c → T (le (one ⊖ z) one)
+one-less : (z : Float) (a c : ℕ) → T (le zero⁺ z) → Within (one ⊖ z) a c → T (le (one ⊖ z) one)
 unfolding sub neg ofBits
-one-less z a c h w = add-monotone binary64 one one (neg z) (neg +0) (unfold le in tt) (le-neg +0 z h) (number (one ⊖ z) a c w) (unfold add isNan in tt)
+one-less z a c h w = add-monotone binary64 one one (neg z) (neg zero⁺) (unfold le in tt) (le-neg zero⁺ z h) (number (one ⊖ z) a c w) (unfold add isNan in tt)
 
 -- ---- hi + q ≤ lo, so lo - q, rounded, is at least hi
-zero-units : InUnits +0
+zero-units : InUnits zero⁺
+unfolding ofBits
 zero-units = record { sign = false; size = 0; is = (refl, refl); kept = round-zero binary64 false (2 ^ 1074) (pow-pos 1074) }
 
-rest-nonneg : (hi q : Float) (w : InUnits hi) (t : InUnits q) (a c : ℕ) → Within (loTop ⊖ q) a c → plusPart (w .sign) (w .size) + t .size ≤ loUnits + minusPart (w .sign) (w .size) → T (le +0 (loTop ⊖ q ⊖ hi))
+rest-nonneg : (hi q : Float) (w : InUnits hi) (t : InUnits q) (a c : ℕ) → Within (loTop ⊖ q) a c → plusPart (w .sign) (w .size) + t .size ≤ loUnits + minusPart (w .sign) (w .size) → T (le zero⁺ (loTop ⊖ q ⊖ hi))
 unfolding sub zero-units
 rest-nonneg hi q w t a c h g =
     let y : Float = loTop ⊖ q in
@@ -114,7 +115,7 @@ rest-nonneg hi q w t a c h g =
     sum-ge y hi _ _ w (sum-of loTop (neg q) false (not (t .sign)) loUnits (t .size) lo-value (value-neg q (t .sign) (t .size) (t .is)))
     (go (t .sign) (t .size) (plusPart (w .sign) (w .size)) (minusPart (w .sign) (w .size)) loUnits g) in
     let i : InUnits y = in-units y a c (sub-fits binary64 loTop q) h in
-    sum-ge (y ⊖ hi) +0 _ _ zero-units (sum-of y (neg hi) (i .sign) (not (w .sign)) (i .size) (w .size) (i .is) (value-neg hi (w .sign) (w .size) (w .is)))
+    sum-ge (y ⊖ hi) zero⁺ _ _ zero-units (sum-of y (neg hi) (i .sign) (not (w .sign)) (i .size) (w .size) (i .is) (value-neg hi (w .sign) (w .size) (w .is)))
     (back (w .sign) (w .size) (plusPart (i .sign) (i .size)) (minusPart (i .sign) (i .size)) (le→at-most hi y (w .sign) (i .sign) (w .size) (i .size) (2 ^ 1074) (pow-pos 1074) (w .is) (i .is) ge))
   where
     go : (s : Bool) (v p n l : ℕ) → p + v ≤ l + n → p + (0 + minusPart (not s) v) ≤ n + (l + plusPart (not s) v)
@@ -169,5 +170,5 @@ part-top hi f u h =
     let qu : Up q 1 4 = up-div tt (up-mul tt xh cu) d in
     let yu : Up (loTop ⊖ q) 257 1024 = up-sub tt lo-up (wider 256 1024 tt qu) in
     let zu : Up (loTop ⊖ q ⊖ hi) 641 1024 = up-sub tt yu u in
-    let z : T (le +0 (loTop ⊖ q ⊖ hi)) = rest-nonneg hi q w t 257 1024 (yu .is) (gap-holds p n loUnits hiUnits (t .size) under (lit< tt) qs) in
+    let z : T (le zero⁺ (loTop ⊖ q ⊖ hi)) = rest-nonneg hi q w t 257 1024 (yu .is) (gap-holds p n loUnits hiUnits (t .size) under (lit< tt) qs) in
     one-less (loTop ⊖ q ⊖ hi) 1665 1024 z (up-sub tt one-up zu .is)
