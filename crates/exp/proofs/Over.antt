@@ -21,16 +21,16 @@ use Rattle.rounding.specs.Bounds.{Within}
 use Rattle.rounding.proofs.Choose.{le-or-lt}
 use Rattle.rounding.proofs.Signed.{le→units}
 use Rattle.rounding.proofs.Monotone.{add-monotone}
-use Rattle.rounding.proofs.Intervals.{Up, exact, up-mul, up-add}
+use Rattle.rounding.proofs.Intervals.{Up, exact, up-mul, up-add, wider, within-number}
 use Rattle.rounding.proofs.Pattern.{patternUnits, units-mono, pattern}
 use Rattle.rounding.proofs.Field.{is-positive}
 use Rattle.exp.specs.Exp.{invLn2, halves, ln2Hi, ln2Lo, overAt, signed, expWhole}
 use Rattle.exp.specs.Range.{Sized}
 use Rattle.exp.proofs.Part.{Bounded, part-bound, part-fits}
-use Rattle.exp.proofs.Far.{sgn, tOf}
+use Rattle.exp.proofs.Far.{sgn, tOf, half-up}
 use Rattle.exp.proofs.Middle.{Middle}
 use Rattle.exp.proofs.Reduced.{Ready, Made, farPart, far-sized, ready, y-at}
-use Rattle.exp.proofs.Top.{loTop, hiTop, number, part-top}
+use Rattle.exp.proofs.Top.{loTop, hiTop, part-top}
 
 -- y for an n
 abbrev farAt : Bool → Float → ℕ → Float
@@ -61,15 +61,11 @@ inv-up : Up invLn2 94549 65536
 unfolding ofBits
 inv-up = record { pos = lit< tt; is = lit≤ tt }
 
-half-up : Up (halves ! 0) 2147483648 4294967296
-unfolding ofBits
-half-up = record { pos = lit< tt; is = lit≤ tt }
-
 cap-few : (m : ℕ) (e : ℤ) → Cap m e → expWhole (fin false m e) 0 ≤ 1024
 unfolding exact signed expWhole
 cap-few m e h =
     let x : Up (fin false m e) 46516797 65536 = record { pos = lit< tt; is = through (m * up e) 6243314768165359 46516797 (down e) (2 ^ 43) 65536 (pow-pos 43) h (lit≤ tt) } in
-    cut-le (invLn2 ⊗ fin false m e ⊕ halves ! 0) _ 4294967296 1024 (lit< tt) (lit< tt) (up-add tt (up-mul tt inv-up x) half-up .is)
+    cut-le (invLn2 ⊗ fin false m e ⊕ halves ! 0) _ 4294967296 1024 (lit< tt) (lit< tt) (up-add tt (up-mul tt inv-up x) (wider 2147483648 4294967296 tt (half-up false)) .is)
 
 -- the pattern of what is at most 1
 one-value : HasValue one false (2 ^ 1074) (2 ^ 1074)
@@ -110,7 +106,7 @@ lo-is = refl
 
 hi-top : (x : Float) → T (le x overAt) → Up (x ⊖ hiPart) 384 1024 → T (le (x ⊖ hiPart) hiTop)
 unfolding sub neg ofBits
-hi-top x h u = add-monotone binary64 x overAt (neg hiPart) (neg hiPart) h (unfold le in tt) (number _ 384 1024 (u .is)) (unfold add isNan in tt)
+hi-top x h u = add-monotone binary64 x overAt (neg hiPart) (neg hiPart) h (unfold le in tt) (within-number _ 384 1024 (u .is)) (unfold add isNan in tt)
 
 top-le : (x : Float) → T (le x overAt) → Up (x ⊖ tOf false 1024 ⊗ ln2Hi ! 0) 384 1024 → T (le (farAt false x 1024) one)
 top-le x h u =
@@ -142,8 +138,8 @@ unfolding lt ofBits
 over-cap m e h = ltb-false (6243314768165359 * 1 * down e) (m * up e * 2 ^ 43) h
 
 pub far-sum : (x : Float) → Sized false x → lt overAt x ≡ false → patternOf (farAt false x (expWhole x 0)) + expWhole x 0 * 2 ^ 52 ≤ 0x7ff0_0000_0000_0000
-far-sum nan h o = absurd h
-far-sum (inf t) h o = absurd h
+far-sum nan h o = absurd (h .1)
+far-sum (inf t) h o = absurd (h .1)
 far-sum (fin true m e) h o = absurd (true≢false (h .0))
 far-sum (fin false m e) h o =
     let x : Float = fin false m e in

@@ -18,10 +18,11 @@ use Rattle.rounding.proofs.Choose.{le-or-lt}
 use Rattle.rounding.proofs.Signed.{zero-le-plus}
 use Rattle.rounding.proofs.Round.{round-signed}
 use Rattle.rounding.proofs.Intervals.{Up, Lo, exact, wider, nearer, up-mul, up-add, up-sub, up-div, lo-add, lo-sub, lo-sub-2}
+use Rattle.rounding.proofs.Constants.{one-up, one-lo, two-up, two-lo}
 use Rattle.rounding.proofs.Pattern.{bits-value}
 use Rattle.exp.specs.Exp.{ln2Hi, ln2Lo, huge, twoM1000, overAt, underAt, expPoly, expZero, expPart, expScale, expWhole, expFar, expNear, expReduce, expLarge, expOf}
 use Rattle.exp.specs.Range.{Split, Sized}
-use Rattle.exp.proofs.Part.{poly-bound, one-up, one-lo, two-up, two-lo}
+use Rattle.exp.proofs.Part.{poly-bound}
 use Rattle.exp.proofs.Far.{sgn}
 use Rattle.exp.proofs.Middle.{Middle}
 use Rattle.exp.proofs.Size.{own, word-lt, below-large, within-range}

@@ -1,57 +1,26 @@
 -- What the high word and the sign bit of x say of its size and its sign. Assumes nothing.
 use mathlib.Core.Path.{_≡_, refl, sym, ap, _∙_, subst}
-use mathlib.Core.Bool.{Bool, true, false, cond, true≢false}
-use mathlib.Core.Logic.{inl, inr}
-use Prim.Native.Nat.{ℕ, zero, suc, _*_, _/_, _%_, _^_, _≤_, _<_}
+use mathlib.Core.Bool.{Bool, true, false, true≢false}
+use Prim.Native.Nat.{ℕ, _*_, _/_, _%_, _^_, _≤_, _<_}
 use native.Mathlib.Nat.{le-trans, le-of-eq, mul-le-mul-right}
 use native.Mathlib.Omega.{arith}
 use lib.Pow.{pow-pos}
-use lib.Dec.{T, leb, eqb, lit≤}
+use lib.Dec.{T, leb, lit≤}
 use lib.IntN.{ℤ}
-use lib.Ieee.{Float, nan, inf, fin, binary64, up, down, lt, ofBits, toBits, ofFields, fits, isNan}
+use lib.Ieee.{Float, nan, inf, fin, binary64, up, down, lt, ofBits, toBits, fits, isNan}
 use lib.Ieee.Bits.{ofBits-toBits, toBits-lt}
 use lib.Ieee.Exact.{HasValue}
 use lib.Ieee.Positive.{through}
-use borrow.Author.Tests.{eq-eqb, le-ltb, ltb-false, leb-true, leb-false}
+use lib.Ieee.Scale.{finite}
+use borrow.Author.Tests.{le-ltb, ltb-false, leb-true, leb-false}
 use Rattle.number.specs.Number.{patternOf}
 use Rattle.rounding.specs.Bounds.{Within}
-use Rattle.rounding.proofs.Choose.{le-or-lt}
-use Rattle.rounding.proofs.Pattern.{unitsAt, patternUnits, units-mono, bits-value-signed, mod-63}
+use Rattle.rounding.proofs.Pattern.{unitsAt, patternUnits, units-mono, bits-value-signed, mod-63, finite-bits}
 use Rattle.exp.specs.Exp.{overAt, underAt}
 use Rattle.exp.specs.Range.{Split, Sized}
 use Rattle.exp.proofs.Far.{sgn}
 
 -- ---- the pattern of a finite number
-
-abbrev pub Finite : Float → Type 0
-Finite nan = ⊥
-Finite (inf s) = ⊥
-Finite (fin s m e) = Unit
-
-finite-fields : (s : Bool) (x t : ℕ) → x < 2048 → Finite (ofFields binary64 s x t) → x < 2047
-unfolding ofFields
-finite-fields s zero t h p = omega arith
-finite-fields s (suc x) t h p = elim (le-or-lt 2047 (suc x)) [
-  | inl l ↦ absurd (top (eqb t 0) (rw (eq-eqb (suc x) 2047 (is-top x h l)) at p))
-  | inr l ↦ l
-]
-  where
-    is-top : (x : ℕ) → suc x < 2048 → 2047 ≤ suc x → suc x ≡ 2047
-    is-top x h l = omega arith
-
-    top : (b : Bool) → Finite (cond b (inf s) nan) → ⊥
-    top true p = p
-    top false p = p
-
-finite-bits : (b : ℕ) → Finite (ofBits binary64 b) → b % 2 ^ 63 < 0x7ff0_0000_0000_0000
-unfolding ofBits
-finite-bits b p = below b (finite-fields (leb (2 ^ 63) b) (b % 2 ^ 63 / 2 ^ 52) (b % 2 ^ 52) (fields-in b) p)
-  where
-    fields-in : (b : ℕ) → b % 2 ^ 63 / 2 ^ 52 < 2048
-    fields-in b = omega arith
-
-    below : (b : ℕ) → b % 2 ^ 63 / 2 ^ 52 < 2047 → b % 2 ^ 63 < 0x7ff0_0000_0000_0000
-    below b h = omega arith
 
 sign-bit : (s : Bool) (b : ℕ) → b < 2 ^ 64 → s ≡ leb (2 ^ 63) b → b / 2 ^ 63 ≡ sgn s
 sign-bit false b h e = go b (leb-false (2 ^ 63) b (sym e))
@@ -73,7 +42,7 @@ pub own : (s : Bool) (m : ℕ) (e : ℤ) → T (fits binary64 (fin s m e)) → O
 own s m e f =
     let b : ℕ = patternOf (fin s m e) in
     let q : ofBits binary64 b ≡ fin s m e = ofBits-toBits binary64 (fin s m e) f in
-    let l : b % 2 ^ 63 < 0x7ff0_0000_0000_0000 = finite-bits b (subst Finite (sym q) tt) in
+    let l : b % 2 ^ 63 < 0x7ff0_0000_0000_0000 = finite-bits b (subst (λ (z : Float). T (finite z)) (sym q) tt) in
     let v : HasValue (fin s m e) (leb (2 ^ 63) b) (unitsAt (b % 2 ^ 63 / 2 ^ 52) (b % 2 ^ 52)) (2 ^ 1074) =
     subst (λ (z : Float). HasValue z (leb (2 ^ 63) b) (unitsAt (b % 2 ^ 63 / 2 ^ 52) (b % 2 ^ 52)) (2 ^ 1074)) q (bits-value-signed b l) in
     record {
@@ -152,8 +121,8 @@ within-range (fin true m e) hx s n p h o u = under-bound m e u
 -- ---- the sign bit
 
 pub above-zero : (x : Float) (hx s : ℕ) → T (fits binary64 x) → Split x hx s → Within x 746 1 → s ≡ 0 → Sized false x
-above-zero nan hx s f p w z = w
-above-zero (inf t) hx s f p w z = w
+above-zero nan hx s f p w z = absurd w
+above-zero (inf t) hx s f p w z = absurd w
 above-zero (fin false m e) hx s f p w z = (refl, w)
 above-zero (fin true m e) hx s f p w z = absurd (omega (arith, p .sign, own true m e f .sign, z))
 

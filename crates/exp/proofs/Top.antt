@@ -18,12 +18,12 @@ use Rattle.rounding.proofs.Signed.{le→at-most}
 use Rattle.rounding.proofs.Order.{le-neg}
 use Rattle.rounding.proofs.Round.{round-zero}
 use Rattle.rounding.proofs.Monotone.{add-monotone}
-use Rattle.rounding.proofs.Intervals.{Exact, Up, Lo, exact, wider, nearer, up-mul, up-sub, up-div, lo-sub, within-mul, within-div}
+use Rattle.rounding.proofs.Intervals.{Exact, Up, Lo, exact, wider, nearer, up-mul, up-sub, up-div, lo-sub, within-number, within-mul, within-div}
+use Rattle.rounding.proofs.Constants.{one-up, two-up, two-lo}
 use Rattle.rounding.proofs.Rounded.{exact-small}
-use Rattle.rounding.proofs.SignedSum.{InUnits, in-units, units-within, value-neg, sum-of, sum-ge, sum-within}
+use Rattle.rounding.proofs.SignedSum.{InUnits, as-units, units-within, value-neg, sum-of, sum-ge, sum-within}
 use Rattle.exp.specs.Exp.{expPoly, expPart}
-use Rattle.exp.proofs.Part.{poly-bound, one-up, two-up, two-lo}
-use Rattle.exp.proofs.Middle.{number-within}
+use Rattle.exp.proofs.Part.{poly-bound}
 
 -- ---- the constants: lo = 1024 * ln2LO, and the largest hi, the threshold less 1024 * ln2HI
 abbrev pub loTop : Float
@@ -95,12 +95,9 @@ quotient-within x c k K h u l =
 
 -- ---- 1 less what is not below zero is at most 1
 
-pub number : (x : Float) (a c : ℕ) → Within x a c → T (not (isNan x))
-number x a c w = subst (λ (b : Bool). T (not b)) (sym (number-within x a c w)) tt
-
 one-less : (z : Float) (a c : ℕ) → T (le zero⁺ z) → Within (one ⊖ z) a c → T (le (one ⊖ z) one)
 unfolding sub neg ofBits
-one-less z a c h w = add-monotone binary64 one one (neg z) (neg zero⁺) (unfold le in tt) (le-neg zero⁺ z h) (number (one ⊖ z) a c w) (unfold add isNan in tt)
+one-less z a c h w = add-monotone binary64 one one (neg z) (neg zero⁺) (unfold le in tt) (le-neg zero⁺ z h) (within-number (one ⊖ z) a c w) (unfold add isNan in tt)
 
 -- ---- hi + q ≤ lo, so lo - q, rounded, is at least hi
 zero-units : InUnits zero⁺
@@ -114,7 +111,7 @@ rest-nonneg hi q w t a c h g =
     let ge : T (le hi y) =
     sum-ge y hi _ _ w (sum-of loTop (neg q) false (not (t .sign)) loUnits (t .size) lo-value (value-neg q (t .sign) (t .size) (t .is)))
     (go (t .sign) (t .size) (plusPart (w .sign) (w .size)) (minusPart (w .sign) (w .size)) loUnits g) in
-    let i : InUnits y = in-units y a c (sub-fits binary64 loTop q) h in
+    let i : InUnits y = as-units y a c (sub-fits binary64 loTop q) h in
     sum-ge (y ⊖ hi) zero⁺ _ _ zero-units (sum-of y (neg hi) (i .sign) (not (w .sign)) (i .size) (w .size) (i .is) (value-neg hi (w .sign) (w .size) (w .is)))
     (back (w .sign) (w .size) (plusPart (i .sign) (i .size)) (minusPart (i .sign) (i .size)) (le→at-most hi y (w .sign) (i .sign) (w .size) (i .size) (2 ^ 1074) (pow-pos 1074) (w .is) (i .is) ge))
   where
@@ -146,7 +143,7 @@ minus-within false a U h = omega arith
 pub part-top : (hi : Float) → T (fits binary64 hi) → Up hi 384 1024 → T (le hi hiTop) → T (le (expPart hi loTop) one)
 unfolding expPart exact sub
 part-top hi f u h =
-    let w : InUnits hi = in-units hi 384 1024 f (u .is) in
+    let w : InUnits hi = as-units hi 384 1024 f (u .is) in
     let p : ℕ = plusPart (w .sign) (w .size) in
     let n : ℕ = minusPart (w .sign) (w .size) in
     let under : p + 0 ≤ hiUnits + n = le→at-most hi hiTop (w .sign) false (w .size) hiUnits (2 ^ 1074) (pow-pos 1074) (w .is) hi-value h in
@@ -165,7 +162,7 @@ part-top hi f u h =
     let xw : Within x 1 (2 ^ b .k) =
     sum-within x _ _ v 1 (2 ^ b .k) (sum-of hi (neg loTop) (w .sign) true (w .size) loUnits (w .is) (value-neg loTop false loUnits lo-value)) (g .0) (g .1) (pow-pos (b .k)) (b .below) (exact-small 1 (b .k) (lit< tt) (le-of-lt (b .few))) in
     let qw : Within q 1 (2 ^ b .k * 2) = quotient-within x c (b .k) (b .few) xw cu d in
-    let t : InUnits q = in-units q 1 (2 ^ b .k * 2) (div-fits binary64 (x ⊗ c) (two ⊖ c)) qw in
+    let t : InUnits q = as-units q 1 (2 ^ b .k * 2) (div-fits binary64 (x ⊗ c) (two ⊖ c)) qw in
     let qs : t .size ≤ v = b .above (t .size) (units-within q (t .sign) (t .size) 1 (2 ^ b .k * 2) (t .is) qw) in
     let qu : Up q 1 4 = up-div tt (up-mul tt xh cu) d in
     let yu : Up (loTop ⊖ q) 257 1024 = up-sub tt lo-up (wider 256 1024 tt qu) in

@@ -1,5 +1,4 @@
 -- For |f| ≤ 7/16 and |k| ≤ 1075, each way that the logarithm ends is at most 746 in size. Assumes nothing.
-use mathlib.Core.Path.{refl}
 use mathlib.Core.Bool.{Bool, true, false, cond}
 use Prim.Native.Nat.{ℕ}
 use lib.Dec.{lit<, lit≤}
@@ -7,6 +6,7 @@ use lib.Ieee.{Float, ofBits, eq}
 use Rattle.number.specs.Number.{_<?_, _=?_, _⊕_, _⊖_, _⊗_, _⊘_, zero⁺, half, two}
 use Rattle.number.specs.Table.{_!_}
 use Rattle.rounding.proofs.Intervals.{Up, Lo, exact, wider, up-mul, up-add, up-sub, lo-add, up-div-to}
+use Rattle.rounding.proofs.Constants.{zero-up, half-up, two-up, two-lo}
 use Rattle.log.specs.Log.{logL, ln2Hi, ln2Lo, third, dkOf, logPoly, logClose, logMid, logOut, logFar}
 
 -- ---- the constants
@@ -47,25 +47,9 @@ lo-up : Up ln2Lo 1 4194304
 unfolding ofBits
 lo-up = record { pos = lit< tt; is = lit≤ tt }
 
-half-up : Up half 1 2
-unfolding ofBits
-half-up = record { pos = lit< tt; is = lit≤ tt }
-
 third-up : Up third 3 8
 unfolding ofBits
 third-up = record { pos = lit< tt; is = lit≤ tt }
-
-zero-up : Up zero⁺ 0 1
-unfolding ofBits
-zero-up = record { pos = lit< tt; is = lit≤ tt }
-
-two-up : Up two 32 16
-unfolding ofBits
-two-up = record { pos = lit< tt; is = lit≤ tt }
-
-two-lo : Lo false two 32 16
-unfolding ofBits
-two-lo = record { is = (refl, lit≤ tt) }
 
 pub pick : (b : Bool) {x y : Float} {a c : ℕ} → Up x a c → Up y a c → Up (cond b x y) a c
 pick true u v = u

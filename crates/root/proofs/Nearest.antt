@@ -3,7 +3,7 @@ use mathlib.Core.Path.{_≡_, sym, ap, _∙_, subst}
 use mathlib.Core.Bool.{false}
 use mathlib.Core.Logic.{inl, inr}
 use Prim.Native.Nat.{ℕ, suc, _+_, _-_, _*_, _/_, _%_, _^_, _≤_, _<_}
-use native.Mathlib.Nat.{le-of-lt, lt-of-lt-of-le, lt-of-le-of-lt, mul-assoc, mul-le-mul-right, mul-le-mul-left, mul-pos, add-mul, one-mul}
+use native.Mathlib.Nat.{le-of-lt, lt-of-lt-of-le, lt-of-le-of-lt, mul-assoc, mul-le-mul-right, mul-le-mul-left, mul-pos}
 use native.Mathlib.Omega.{arith}
 use lib.Dec.{lit<}
 use lib.Pow.{pow-pos}
@@ -32,13 +32,10 @@ at-least n q h k = elim (le-or-lt (2 ^ 52) q) [
 
 at-most : (n q : ℕ) → n ≤ (2 ^ 53 - 1) * 2 ^ 53 → RoundsTo n q → q < 2 ^ 53
 at-most n q h k = elim (le-or-lt (2 ^ 53) q) [
-  | inl l ↦ absurd (go n (q * q) q (2 ^ 53 * q) ((2 ^ 53 - 1) * q) ((2 ^ 53 - 1) * 2 ^ 53) h (k .0) (mul-le-mul-right q l) (split-one (2 ^ 53 - 1) q) (mul-le-mul-left (2 ^ 53 - 1) l))
+  | inl l ↦ absurd (go n (q * q) q (2 ^ 53 * q) ((2 ^ 53 - 1) * q) ((2 ^ 53 - 1) * 2 ^ 53) h (k .0) (mul-le-mul-right q l) (omega arith) (mul-le-mul-left (2 ^ 53 - 1) l))
   | inr l ↦ l
 ]
   where
-    split-one : (c q : ℕ) → (c + 1) * q ≡ c * q + q
-    split-one c q = simp (add-mul, one-mul)
-
     go : (n S q P A B : ℕ) → n ≤ B → S < n + q → P ≤ S → P ≡ A + q → B ≤ A → ⊥
     go n S q P A B a b c d e = omega arith
 

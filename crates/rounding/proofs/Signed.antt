@@ -82,10 +82,11 @@ plain-tests a b h = omega (arith, tests→at-most false a false b h)
 
 -- ---- `le` of finite numbers
 
-over-left : (x d a e u : ℕ) → x * u ≡ a * d → x * e * u ≡ a * (d * e)
+-- x / d is a / u, and y / e is b / u: each over the common denominator d e
+pub over-left : (x d a e u : ℕ) → x * u ≡ a * d → x * e * u ≡ a * (d * e)
 over-left x d a e u h = omega (arith, ap (λ (z : ℕ). z * e) h)
 
-over-right : (y e b d u : ℕ) → y * u ≡ b * e → y * d * u ≡ b * (d * e)
+pub over-right : (y e b d u : ℕ) → y * u ≡ b * e → y * d * u ≡ b * (d * e)
 over-right y e b d u h = omega (arith, ap (λ (z : ℕ). z * d) h)
 
 -- x is ±a / u and y is ±b / u: x ≤ y says that ±a ≤ ±b

@@ -6,7 +6,8 @@ use borrow.Author.Needs.{needs}
 use lib.IntN.{pos}
 use lib.Ieee.{Float, binary64, ofInt}
 use Rattle.exp.specs.Exp.{signed, expWhole}
-use Rattle.exp.proofs.Reduced.{farPart, Made, far-sized, far-few, far-ready, far-is, is-number, scale-up, pattern-number}
+use Rattle.rounding.proofs.Pattern.{number-pattern}
+use Rattle.exp.proofs.Reduced.{farPart, Made, far-sized, far-few, far-ready, far-is, scale-up}
 use Rattle.exp.proofs.Over.{made-sum}
 use Rattle.exp.proofs.exp_up.Statement.{statement}
 use Rattle.exp.proofs.exp_up.Tie as tie
@@ -37,7 +38,7 @@ exp-part-requires c κs = search needs
 
 float-to-bits-result : tie.Need-float-to-bits-result
 unfolding signed expWhole
-float-to-bits-result c = is-number (far-ready (c .before .before .before .pre .0) (made (c .before .before .before .args .x) (c .before .before .whole-part .result) (c .before .of-whole .result) (c .exp-part .result) (c .before .before .whole-part .ensures) (c .before .of-whole .ensures) (c .exp-part .ensures)))
+float-to-bits-result c = far-ready (c .before .before .before .pre .0) (made (c .before .before .before .args .x) (c .before .before .whole-part .result) (c .before .of-whole .result) (c .exp-part .result) (c .before .before .whole-part .ensures) (c .before .of-whole .ensures) (c .exp-part .ensures)) .number
 
 mul-result : tie.Need-mul-result
 unfolding signed expWhole
@@ -49,7 +50,7 @@ add-result c = let h = far-few false (c .before .before .before .args .x) (c .be
 
 float-from-bits-result : tie.Need-float-from-bits-result
 unfolding signed expWhole
-float-from-bits-result c = pattern-number _ (made-sum (c .before .before .before .pre .0) (c .before .before .before .pre .1) (made (c .before .before .before .args .x) (c .before .before .whole-part .result) (c .before .of-whole .result) (c .exp-part .result) (c .before .before .whole-part .ensures) (c .before .of-whole .ensures) (c .exp-part .ensures)))
+float-from-bits-result c = number-pattern _ (made-sum (c .before .before .before .pre .0) (c .before .before .before .pre .1) (made (c .before .before .before .args .x) (c .before .before .whole-part .result) (c .before .of-whole .result) (c .exp-part .result) (c .before .before .whole-part .ensures) (c .before .of-whole .ensures) (c .exp-part .ensures)))
 
 returns : tie.Need-returns
 unfolding signed expWhole
