@@ -2,7 +2,7 @@
 use mathlib.Core.List.{[], _∷_}
 use lib.Dec.{T}
 use lib.Ieee.{ofBits, toBits, size}
-use Rattle.number.specs.Values.{agrees, _gives_}
+use Rattle.number.proofs.Values.{agrees, _gives_}
 use Rattle.rounding.specs.Units.{inUnits}
 use Rattle.root.specs.Root.{rootOf, rootPattern, wholeRoot, cut}
 

@@ -1,4 +1,5 @@
 -- Multiplication keeps the order in both arguments, over numbers not below zero (zeros of both signs and infinity included), where no NaN comes out. Assumes nothing.
+-- Nothing here uses it yet: the most likely course of labels, a later request, compares products of weights.
 use mathlib.Core.Path.{_≡_, sym, ap, _∙_, subst₂}
 use mathlib.Core.Bool.{Bool, true, false, not}
 use Prim.Native.Nat.{ℕ, _*_, _≤_, zero-le}

@@ -1,4 +1,5 @@
 -- Sums, products and quotients of numbers not below zero are not below zero, unless a NaN. A divisor has to be above zero: 1 / -0 is -∞. Assumes nothing.
+-- That weights are not below zero is asked by demand 3 of the filter, a later request; Product uses the cases of infinity.
 use mathlib.Core.Path.{_≡_, refl, ap, _∙_}
 use mathlib.Core.Bool.{Bool, true, false, not, cond}
 use Prim.Native.Nat.{ℕ, _+_, _*_, _<_}
