@@ -1,4 +1,4 @@
--- An x that is not above the overflow threshold: for |x| at least 1.5 ln 2 the pattern of y and n * 2 ^ 52 sum up to the pattern of infinity at most.
+-- The far case of an x above zero that is not above the overflow threshold: the pattern of y and n * 2 ^ 52 sum up to the pattern of infinity at most.
 -- Assumes nothing.
 use mathlib.Core.Path.{_≡_, refl, sym, subst}
 use mathlib.Core.Bool.{Bool, true, false, true≢false}

@@ -65,6 +65,7 @@ i-high : 1000000 * 2 ^ 51 ≤ 693148 * I
 unfolding I
 i-high = lit≤ tt
 
+-- a * D * 2 ^ 51 million, in two orders
 shuffle : (a D : ℕ) → a * (2 ^ 51 * D) * 1000000 ≡ a * D * (1000000 * 2 ^ 51)
 shuffle a D = omega arith
 
