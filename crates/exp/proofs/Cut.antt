@@ -2,22 +2,19 @@
 use mathlib.Core.Path.{_≡_, sym, ap, _∙_}
 use mathlib.Core.Bool.{true, false}
 use Prim.Native.Nat.{ℕ, zero, suc, _+_, _-_, _*_, _/_, _%_, _^_, _≤_, _<_, min}
-use native.Mathlib.Nat.{mul-comm, div-le-self, mul-div-mul-right}
+use native.Mathlib.Nat.{div-le-self, mul-div-mul-right}
 use native.Mathlib.Omega.{arith}
 use lib.Pow.{pow-pos, pow-add}
 use lib.Dec.{T, lit<, lit≤}
 use lib.Ieee.{Float, nan, inf, fin, binary64, up, down, fits, toUnsigned}
 use lib.Ieee.Fits.{down-pos}
 use lib.Ieee.Exact.{HasValue}
+use lib.Ieee.Nearest.{div-same}
 use lib.Ieee.Positive.{positive}
 use Rattle.number.specs.Number.{patternOf}
 use Rattle.rounding.specs.Bounds.{Within, From}
 use Rattle.rounding.proofs.Field.{is-positive, field-above, field-within}
 use Rattle.rounding.proofs.Pattern.{unitsAt, pattern}
-
--- equal fractions have one whole part
-same-whole : (a b c d : ℕ) → 0 < b → 0 < d → a * d ≡ c * b → a / b ≡ c / d
-same-whole a b c d B D e = sym (mul-div-mul-right a b D) ∙ ap (λ (z : ℕ). z / (b * d)) e ∙ ap (λ (z : ℕ). c * b / z) (mul-comm b d) ∙ mul-div-mul-right c d B
 
 -- the digits, less those behind the point
 abbrev pub wholeOf : ℕ → ℕ
@@ -47,7 +44,7 @@ whole-at nan x t p v l h k = absurd p
 whole-at (inf s) x t p v l h k = absurd p
 whole-at (fin true m e) x t p v l h k = absurd p
 whole-at (fin false m e) x t p v l h k =
-    let q : m * up e / down e ≡ (2 ^ 52 + t) / 2 ^ (1075 - x) = same-whole (m * up e) (down e) (unitsAt x t) (2 ^ 1074) (down-pos e) (pow-pos 1074) (v .1) ∙ fields-whole x t h k in
+    let q : m * up e / down e ≡ (2 ^ 52 + t) / 2 ^ (1075 - x) = div-same (m * up e) (down e) (unitsAt x t) (2 ^ 1074) (down-pos e) (pow-pos 1074) (v .1) ∙ fields-whole x t h k in
     sym (ap (λ (z : ℕ). min z (2 ^ 64 - 1)) q ∙ cut-small _ (few (2 ^ 52 + t) (2 ^ (1075 - x)) (more t l)))
   where
     more : (t : ℕ) → t < 2 ^ 52 → 2 ^ 52 + t < 2 ^ 53

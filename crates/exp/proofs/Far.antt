@@ -1,12 +1,12 @@
 -- The exponential's far case: for |x| ≤ 746 the parts hi and lo are small, and so is n. Assumes nothing.
 use mathlib.Core.Path.{_≡_, refl, sym, ap, _∙_, subst}
-use mathlib.Core.Bool.{Bool, true, false, not, cond, _&&_, Bool·beq}
+use mathlib.Core.Bool.{Bool, true, false, not}
 use Prim.Native.Nat.{ℕ, _+_, _-_, _*_, _/_, _^_, _≤_, _<_, min}
 use native.Mathlib.Nat.{le-trans, le-of-eq, mul-le-mul-right, mul-pos, mul-assoc, mul-right-comm, one-mul, mul-one, add-mul, div-mul-le-self, div-lt-iff-lt-mul, lt-suc-self}
 use native.Mathlib.Numerals.{add-one}
 use native.Mathlib.Omega.{arith}
 use lib.Pow.{pow-pos}
-use lib.Dec.{ltb, lit<, lit≤}
+use lib.Dec.{lit<, lit≤}
 use lib.IntN.{ℤ, pos, negsuc}
 use lib.Ieee.{Float, nan, inf, fin, binary64, up, down, neg, round, sum, add, sub, mul, ofBits, toUnsigned, ofInt}
 use lib.Ieee.Fits.{down-pos}
@@ -16,10 +16,10 @@ use Rattle.number.specs.Number.{_⊕_, _⊖_, _⊗_}
 use Rattle.number.specs.Table.{_!_}
 use Rattle.rounding.specs.Bounds.{Within, From}
 use Rattle.rounding.proofs.Negate.{neg-round}
-use Rattle.rounding.proofs.Intervals.{Exact, Up, exact, wider, up-mul, up-add, within-round}
+use Rattle.rounding.proofs.Intervals.{Up, exact, wider, up-mul, up-add, within-difference}
 use Rattle.rounding.proofs.Rounded.{rounded, exact-small, exact-signed}
 use Rattle.exp.specs.Exp.{invLn2, halves, ln2Hi, ln2Lo, signed, expWhole}
-use Rattle.exp.proofs.Reduce.{near, Near, I, H}
+use Rattle.exp.proofs.Reduce.{small-rest, SmallRest, I, H}
 
 -- the sign as the code has it
 abbrev pub sgn : Bool → ℕ
@@ -34,11 +34,12 @@ inv-up : Up invLn2 3 2
 unfolding ofBits
 inv-up = record { pos = lit< tt; is = lit≤ tt }
 
-lo-up : Up (ln2Lo ! 0) 1 4194304
+pub ln2-lo-up : (s : Bool) → Up (ln2Lo ! sgn s) 1 4194304
 unfolding ofBits
-lo-up = record { pos = lit< tt; is = lit≤ tt }
+ln2-lo-up false = record { pos = lit< tt; is = lit≤ tt }
+ln2-lo-up true = record { pos = lit< tt; is = lit≤ tt }
 
-half-up : (s : Bool) → Up (halves ! sgn s) 1 2
+pub half-up : (s : Bool) → Up (halves ! sgn s) 1 2
 unfolding ofBits
 half-up false = record { pos = lit< tt; is = lit≤ tt }
 half-up true = record { pos = lit< tt; is = lit≤ tt }
@@ -86,23 +87,6 @@ cut-is g f p h =
     small q h = omega arith
 
 -- ---- the difference
-apart : (s : Bool) (A B D : ℕ) → 0 < D → A * 8 ≤ B * 8 + 3 * D → B * 8 ≤ A * 8 + 3 * D → Within (sum binary64 s A (not s) B D) 384 1024
-unfolding sum
-apart s A B D P h k = go s (ltb A B)
-  where
-    less-1 : (A B D : ℕ) → A * 8 ≤ B * 8 + 3 * D → (A - B) * 1024 ≤ 384 * D
-    less-1 A B D h = omega arith
-
-    exact-1 : Exact 384 1024
-    exact-1 = exact-small 384 10 (lit< tt) (lit≤ tt)
-
-    pick : (q : Bool) (u v : Bool) → Within (cond q (round binary64 u (B - A) D) (round binary64 v (A - B) D)) 384 1024
-    pick true u v = within-round u (B - A) D 384 1024 P (lit< tt) (less-1 B A D k) exact-1
-    pick false u v = within-round v (A - B) D 384 1024 P (lit< tt) (less-1 A B D h) exact-1
-
-    go : (s q : Bool) → Within (cond (Bool·beq s (not s)) (round binary64 s (A + B) D) (cond q (round binary64 (not s) (B - A) D) (round binary64 (s && ltb B A) (A - B) D))) 384 1024
-    go true q = pick q false (ltb B A)
-    go false q = pick q true false
 
 -- the product of n and ln2HI is exact
 small-product : (n : ℕ) → n ≤ 1120 → n * H < 2 ^ 53
@@ -136,16 +120,20 @@ difference-is : (s : Bool) (m : ℕ) (e : ℤ) (k : ℕ) (g : ℤ) → fin s m e
 unfolding sub add neg
 difference-is s m e k g = refl
 
-pub difference-within : (s : Bool) (m : ℕ) (e : ℤ) (y : Float) (n : ℕ) → HasValue y s (n * H) (2 ^ 32) → Near n (m * up e) (down e) → Within (fin s m e ⊖ y) 384 1024
+pub difference-within : (s : Bool) (m : ℕ) (e : ℤ) (y : Float) (n : ℕ) → HasValue y s (n * H) (2 ^ 32) → SmallRest n (m * up e) (down e) → Within (fin s m e ⊖ y) 384 1024
 difference-within s m e nan n v w = absurd v
 difference-within s m e (inf r) n v w = absurd v
 difference-within s m e (fin r k g) n v w =
     subst (λ (q : Bool). Within (fin s m e ⊖ fin q k g) 384 1024) (sym (v .0))
     (subst (λ (z : Float). Within z 384 1024) (sym (difference-is s m e k g))
-    (apart s (m * up e * down g) (k * up g * down e) (down e * down g) (mul-pos (down-pos e) (down-pos g))
-    (cancel (m * up e) (down e) (k * up g) (down g) (n * H) (v .1) (w .not-above))
-    (cancel-2 (m * up e) (down e) (k * up g) (down g) (n * H) (v .1) (w .not-below))))
+    (within-difference s (m * up e * down g) (k * up g * down e) (down e * down g) 384 1024 (mul-pos (down-pos e) (down-pos g)) (lit< tt)
+    (eighths (m * up e * down g) (k * up g * down e) (down e * down g) (cancel (m * up e) (down e) (k * up g) (down g) (n * H) (v .1) (w .not-above)))
+    (eighths (k * up g * down e) (m * up e * down g) (down e * down g) (cancel-2 (m * up e) (down e) (k * up g) (down g) (n * H) (v .1) (w .not-below)))
+    (exact-small 384 10 (lit< tt) (lit≤ tt))))
   where
+    eighths : (A B D : ℕ) → A * 8 ≤ B * 8 + 3 * D → A * 1024 ≤ B * 1024 + 384 * D
+    eighths A B D h = omega arith
+
     term-1 : (p D G Y : ℕ) → Y * 2 ^ 32 ≡ p * G → p * D * 8 * G ≡ Y * D * 2 ^ 32 * 8
     term-1 p D G Y e = mul-right-comm (p * D) 8 G ∙ ap (λ (z : ℕ). z * 8) (mul-right-comm p D G ∙ ap (λ (z : ℕ). z * D) (sym e) ∙ mul-right-comm Y (2 ^ 32) D)
 
@@ -185,7 +173,7 @@ abbrev pub ratio : Bool → Float → Float
 ratio s x = signed (sgn s) (invLn2 ⊗ x ⊕ halves ! sgn s)
 
 record Whole (s : Bool) (m : ℕ) (e : ℤ) (n : ℕ) : Type 0 where
-  is : Near n (m * up e) (down e)
+  is : SmallRest n (m * up e) (down e)
   le : n ≤ 1120
   few : Few (ratio s (fin s m e))
 
@@ -208,7 +196,7 @@ whole-part s m e h =
     let c = cut-is (v .0 * up (v .1)) (down (v .1)) (down-pos (v .1)) in-v in
     subst (λ (n : ℕ). Whole s m e n) (sym (ap (toUnsigned 64) re))
     (record {
-      is = near _ (m * up e) (down e) (p .0 * up (p .1)) (down (p .1)) (v .0 * up (v .1)) (down (v .1)) (c .2) (p .3) (v .3) (c .0) (c .1);
+      is = small-rest _ (m * up e) (down e) (p .0 * up (p .1)) (down (p .1)) (v .0 * up (v .1)) (down (v .1)) (c .2) (p .3) (v .3) (c .0) (c .1);
       le = c .2;
       few = subst Few (sym re) (record { from = (refl, v .3 .at-least 1 2 (lit< tt) (exact-small 1 1 (lit< tt) (lit≤ tt)) (half-more (p .0 * up (p .1)) (down (p .1)))); within = in-v });
     })
@@ -229,5 +217,5 @@ far s m e h =
       few = w .few;
       n-le = w .le;
       hi-up = record { pos = lit< tt; is = difference-within s m e (tOf s n ⊗ ln2Hi ! 0) n (product-value s n (w .le)) (w .is) };
-      lo-up = wider 1 1024 tt (up-mul tt (t-up s n (w .le)) lo-up);
+      lo-up = wider 1 1024 tt (up-mul tt (t-up s n (w .le)) (ln2-lo-up false));
     }

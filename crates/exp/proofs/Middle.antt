@@ -1,12 +1,9 @@
 -- The pattern of a y from 351/1024 to 1697/1024: its exponent's field is from 1021 to 1023, so that k can be added to it. Assumes nothing.
-use mathlib.Core.Path.{_≡_, refl}
-use mathlib.Core.Bool.{false}
 use Prim.Native.Nat.{ℕ, _*_, _/_, _^_, _≤_, _<_}
 use native.Mathlib.Omega.{arith}
 use lib.Dec.{T, lit<, lit≤}
-use lib.Ieee.{Float, nan, inf, fin, binary64, fits, isNan}
+use lib.Ieee.{Float, binary64, fits}
 use Rattle.number.specs.Number.{patternOf}
-use Rattle.rounding.specs.Bounds.{Within}
 use Rattle.rounding.proofs.Field.{is-positive, field-above, field-within}
 use Rattle.exp.proofs.Part.{Bounded}
 
@@ -22,10 +19,3 @@ middle y f w =
   where
     in-field : (b : ℕ) → 1020 < b / 2 ^ 52 → b / 2 ^ 52 ≤ 1023 → Middle b
     in-field b h k = record { from = omega arith; below = omega arith }
-
--- a number with a bound is no NaN
-pub number-within : (x : Float) (a c : ℕ) → Within x a c → isNan x ≡ false
-unfolding isNan
-number-within nan a c w = absurd w
-number-within (inf s) a c w = absurd w
-number-within (fin s m e) a c w = refl

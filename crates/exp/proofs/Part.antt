@@ -1,15 +1,15 @@
 -- For |hi| ≤ 3/8 and |lo| ≤ 1/1024, `expPart hi lo` is finite, above zero, and from 351/1024 to 1697/1024. Assumes nothing.
-use mathlib.Core.Path.{refl}
 use mathlib.Core.Bool.{false}
 use lib.Dec.{T, lit<, lit≤}
 use lib.Ieee.{Float, binary64, fits, ofBits}
 use lib.Ieee.Fits.{sub-fits}
-use Rattle.number.specs.Number.{_⊖_, _⊗_, _⊘_, one, two}
+use Rattle.number.specs.Number.{_⊖_, _⊗_, _⊘_, two}
 use Rattle.number.specs.Table.{_!_}
 use Rattle.rounding.proofs.Intervals.{Up, Lo, exact, wider, nearer, up-mul, up-add, up-sub, up-div, lo-sub}
+use Rattle.rounding.proofs.Constants.{one-up, one-lo, two-up, two-lo}
 use Rattle.exp.specs.Exp.{expP, expPoly, expPart}
 
--- the table's entries, and 1 and 2
+-- the table's entries
 p5 : Up (expP ! 4) 1 256
 unfolding ofBits
 p5 = record { pos = lit< tt; is = lit≤ tt }
@@ -29,22 +29,6 @@ p2 = record { pos = lit< tt; is = lit≤ tt }
 p1 : Up (expP ! 0) 12288 65536
 unfolding ofBits
 p1 = record { pos = lit< tt; is = lit≤ tt }
-
-pub one-up : Up one 1024 1024
-unfolding ofBits
-one-up = record { pos = lit< tt; is = lit≤ tt }
-
-pub one-lo : Lo false one 1024 1024
-unfolding ofBits
-one-lo = record { is = (refl, lit≤ tt) }
-
-pub two-up : Up two 32 16
-unfolding ofBits
-two-up = record { pos = lit< tt; is = lit≤ tt }
-
-pub two-lo : Lo false two 32 16
-unfolding ofBits
-two-lo = record { is = (refl, lit≤ tt) }
 
 -- for |t| ≤ 1/4 the polynomial is at most 1/16 in size
 pub poly-bound : (t : Float) → Up t 1 4 → Up (expPoly t) 1 16

@@ -2,7 +2,7 @@
 -- Whole numbers only. Assumes nothing.
 use mathlib.Core.Path.{_≡_, sym, ap, _∙_, subst}
 use Prim.Native.Nat.{ℕ, zero, suc, _+_, _*_, _^_, _≤_, _<_}
-use native.Mathlib.Nat.{le-trans, le-of-eq, lt-of-lt-of-le, lt-of-le-of-lt, lt-of-not-le, lt-irrefl, mul-le-mul-right, mul-le-mul-left, mul-lt-mul-of-pos-right, add-mul, one-mul, mul-one, mul-assoc, mul-comm, mul-right-comm, lt-of-mul-lt-mul-right, zero-mul, suc-mul}
+use native.Mathlib.Nat.{le-trans, le-of-eq, lt-of-lt-of-le, lt-of-le-of-lt, lt-of-not-le, lt-irrefl, mul-le-mul-right, mul-le-mul-left, mul-lt-mul-of-pos-right, mul-one, mul-assoc, mul-comm, mul-right-comm, lt-of-mul-lt-mul-right, zero-mul, suc-mul}
 use native.Mathlib.Numerals.{add-one}
 use native.Mathlib.Omega.{arith}
 use lib.Dec.{lit<, lit≤}
@@ -13,15 +13,9 @@ use Rattle.rounding.proofs.Rounded.{Rounded, exact-small}
 unfoldable pub I : ℕ
 I = 0xB_8AA3_B295_C17F
 
-twice-and : (n e : ℕ) → (2 * n + 1) * e ≡ 2 * (n * e) + e
-twice-and n e = add-mul (2 * n) 1 e ∙ ap (λ (z : ℕ). z + 1 * e) (mul-assoc 2 n e) ∙ ap (λ (z : ℕ). 2 * (n * e) + z) (one-mul e)
-
-and-one : (n e : ℕ) → (n + 1) * e ≡ n * e + e
-and-one n e = add-mul n 1 e ∙ ap (λ (z : ℕ). n * e + z) (one-mul e)
-
 -- 2 * p < (2 * n + 1) * e
 upper-1 : (n P E G F : ℕ) → n < 2000 → Rounded (P * 2 + E) (E * 2) G F → G < (n + 1) * F → P * 2 < (2 * n + 1) * E
-upper-1 n P E G F N r h = lt-of-not-le (λ (g : (2 * n + 1) * E ≤ P * 2). lt-irrefl G (lt-of-lt-of-le h (le-trans (r .at-least (n + 1) 1 (lit< tt) (exact-small (n + 1) 0 (small n N) (lit≤ tt)) (go (n * E) E P ((2 * n + 1) * E) ((n + 1) * (E * 2)) g (twice-and n E) (and-one n (E * 2) ∙ ap (λ (z : ℕ). z + E * 2) (sym (mul-assoc n E 2))))) (le-of-eq (mul-one G)))))
+upper-1 n P E G F N r h = lt-of-not-le (λ (g : (2 * n + 1) * E ≤ P * 2). lt-irrefl G (lt-of-lt-of-le h (le-trans (r .at-least (n + 1) 1 (lit< tt) (exact-small (n + 1) 0 (small n N) (lit≤ tt)) (go (n * E) E P ((2 * n + 1) * E) ((n + 1) * (E * 2)) g (omega arith) (omega arith))) (le-of-eq (mul-one G)))))
   where
     small : (n : ℕ) → n < 2000 → n + 1 < 2 ^ 53
     small n h = omega arith
@@ -39,13 +33,10 @@ upper-2 n X D P E N r h = lt-of-not-le (λ (g : (2 * n + 1) * (2 ^ 51 * D) ≤ I
 lower-1 : (k P E G F : ℕ) → k < 2000 → Rounded (P * 2 + E) (E * 2) G F → (k + 1) * F ≤ G → (1024 * k + 1023) * (E * 2) < (P * 2 + E) * 1024
 lower-1 k P E G F N r h =
     lt-of-not-le (λ (g : (P * 2 + E) * 1024 ≤ (1024 * k + 1023) * (E * 2)).
-    no (k * F) F G ((k + 1) * F) ((1024 * k + 1023) * F) (r .above-zero) h (and-one k F) (split k F) (r .at-most (1024 * k + 1023) 1024 (lit< tt) (exact-small (1024 * k + 1023) 10 (small k N) (lit≤ tt)) g))
+    no (k * F) F G ((k + 1) * F) ((1024 * k + 1023) * F) (r .above-zero) h (omega arith) (omega arith) (r .at-most (1024 * k + 1023) 1024 (lit< tt) (exact-small (1024 * k + 1023) 10 (small k N) (lit≤ tt)) g))
   where
     small : (k : ℕ) → k < 2000 → 1024 * k + 1023 < 2 ^ 53
     small k h = omega arith
-
-    split : (k f : ℕ) → (1024 * k + 1023) * f ≡ 1024 * (k * f) + 1023 * f
-    split k f = add-mul (1024 * k) 1023 f ∙ ap (λ (z : ℕ). z + 1023 * f) (mul-assoc 1024 k f)
 
     no : (w F G A B : ℕ) → 0 < F → A ≤ G → A ≡ w + F → B ≡ 1024 * w + 1023 * F → G * 1024 ≤ B → ⊥
     no w F G A B z a b c d = omega arith
@@ -53,19 +44,10 @@ lower-1 k P E G F N r h =
 lower-2 : (k X D P E : ℕ) → k < 2000 → Rounded (I * X) (2 ^ 51 * D) P E → (1024 * k + 1023) * (E * 2) < (P * 2 + E) * 1024 → (1024 * k + 510) * (2 ^ 51 * D) < I * X * 1024
 lower-2 k X D P E N r h =
     lt-of-not-le (λ (g : I * X * 1024 ≤ (1024 * k + 510) * (2 ^ 51 * D)).
-    no (k * E) E P ((1024 * k + 1023) * (E * 2)) ((1024 * k + 510) * E) (r .above-zero) h (split-2 k E) (split k E) (r .at-most (1024 * k + 510) 1024 (lit< tt) (exact-small (1024 * k + 510) 10 (small k N) (lit≤ tt)) g))
+    no (k * E) E P ((1024 * k + 1023) * (E * 2)) ((1024 * k + 510) * E) (r .above-zero) h (omega arith) (omega arith) (r .at-most (1024 * k + 510) 1024 (lit< tt) (exact-small (1024 * k + 510) 10 (small k N) (lit≤ tt)) g))
   where
     small : (k : ℕ) → k < 2000 → 1024 * k + 510 < 2 ^ 53
     small k h = omega arith
-
-    split : (k f : ℕ) → (1024 * k + 510) * f ≡ 1024 * (k * f) + 510 * f
-    split k f = add-mul (1024 * k) 510 f ∙ ap (λ (z : ℕ). z + 510 * f) (mul-assoc 1024 k f)
-
-    split-2 : (k f : ℕ) → (1024 * k + 1023) * (f * 2) ≡ 2048 * (k * f) + 2046 * f
-    split-2 k f = add-mul (1024 * k) 1023 (f * 2) ∙ go (k * f) f (1024 * k * (f * 2)) (mul-assoc 1024 k (f * 2) ∙ ap (λ (z : ℕ). 1024 * z) (sym (mul-assoc k f 2)))
-      where
-        go : (w f A : ℕ) → A ≡ 1024 * (w * 2) → A + 1023 * (f * 2) ≡ 2048 * w + 2046 * f
-        go w f A e = omega arith
 
     no : (w E P A B : ℕ) → 0 < E → A < (P * 2 + E) * 1024 → A ≡ 2048 * w + 2046 * E → B ≡ 1024 * w + 510 * E → P * 1024 ≤ B → ⊥
     no w E P A B z a b c d = omega arith
@@ -83,17 +65,9 @@ i-high : 1000000 * 2 ^ 51 ≤ 693148 * I
 unfolding I
 i-high = lit≤ tt
 
-h-low : 693147 * 2 ^ 32 ≤ 1000000 * H
-unfolding H
-h-low = lit≤ tt
-
-h-high : 1000000 * H ≤ 693148 * 2 ^ 32
-unfolding H
-h-high = lit≤ tt
-
-i-pos : 0 < I
-unfolding I
-i-pos = lit< tt
+-- a * D * 2 ^ 51 million, in two orders
+shuffle : (a D : ℕ) → a * (2 ^ 51 * D) * 1000000 ≡ a * D * (1000000 * 2 ^ 51)
+shuffle a D = omega arith
 
 -- 2 * X * 10 ^ 6 < (2 * n + 1) * 693148 * D
 upper-3 : (a X D : ℕ) → I * X * 2 < a * (2 ^ 51 * D) → X * 2000000 < a * D * 693148
@@ -101,23 +75,17 @@ upper-3 a X D h =
     lt-of-mul-lt-mul-right I
     (lt-of-le-of-lt (le-of-eq (mul-right-comm X 2000000 I ∙ ap (λ (z : ℕ). z * 2000000) (mul-comm X I) ∙ sym (mul-assoc (I * X) 2 1000000)))
     (lt-of-lt-of-le (mul-lt-mul-of-pos-right h (lit< tt))
-    (le-trans (le-of-eq shuffle) (le-trans (mul-le-mul-left (a * D) i-high) (le-of-eq (sym (mul-assoc (a * D) 693148 I)))))))
-  where
-    shuffle : a * (2 ^ 51 * D) * 1000000 ≡ a * D * (1000000 * 2 ^ 51)
-    shuffle = ap (λ (z : ℕ). z * 1000000) (ap (λ (z : ℕ). a * z) (mul-comm (2 ^ 51) D) ∙ sym (mul-assoc a D (2 ^ 51))) ∙ mul-assoc (a * D) (2 ^ 51) 1000000
+    (le-trans (le-of-eq (shuffle a D)) (le-trans (mul-le-mul-left (a * D) i-high) (le-of-eq (sym (mul-assoc (a * D) 693148 I)))))))
 
 lower-3 : (a X D : ℕ) → a * (2 ^ 51 * D) < I * X * 1024 → a * D * 693147 < X * 1024000000
 lower-3 a X D h =
     lt-of-mul-lt-mul-right I
-    (lt-of-le-of-lt (le-trans (le-of-eq (mul-assoc (a * D) 693147 I)) (le-trans (mul-le-mul-left (a * D) i-low) (le-of-eq (sym shuffle))))
+    (lt-of-le-of-lt (le-trans (le-of-eq (mul-assoc (a * D) 693147 I)) (le-trans (mul-le-mul-left (a * D) i-low) (le-of-eq (sym (shuffle a D)))))
     (lt-of-lt-of-le (mul-lt-mul-of-pos-right h (lit< tt))
     (le-of-eq (mul-assoc (I * X) 1024 1000000 ∙ sym (mul-right-comm X 1024000000 I ∙ ap (λ (z : ℕ). z * 1024000000) (mul-comm X I))))))
-  where
-    shuffle : a * (2 ^ 51 * D) * 1000000 ≡ a * D * (1000000 * 2 ^ 51)
-    shuffle = ap (λ (z : ℕ). z * 1000000) (ap (λ (z : ℕ). a * z) (mul-comm (2 ^ 51) D) ∙ sym (mul-assoc a D (2 ^ 51))) ∙ mul-assoc (a * D) (2 ^ 51) 1000000
 
 -- |X / D - n * H / 2 ^ 32| ≤ 3 / 8
-pub record Near (n X D : ℕ) : Type 0 where
+pub record SmallRest (n X D : ℕ) : Type 0 where
   pub not-above : X * 2 ^ 32 * 8 ≤ n * H * D * 8 + 3 * (D * 2 ^ 32)
   pub not-below : n * H * D * 8 ≤ X * 2 ^ 32 * 8 + 3 * (D * 2 ^ 32)
 
@@ -136,21 +104,24 @@ below-2 : (w X D : ℕ) → w * 693148 * 8 ≤ X * 8000000 + 3000000 * D → w *
 unfolding H
 below-2 w X D h = omega arith
 
-near-above : (n X D P E G F : ℕ) → n ≤ 1120 → Rounded (I * X) (2 ^ 51 * D) P E → Rounded (P * 2 + E) (E * 2) G F → G < (n + 1) * F → X * 2 ^ 32 * 8 ≤ n * H * D * 8 + 3 * (D * 2 ^ 32)
-near-above n X D P E G F N r t h =
+rest-above : (n X D P E G F : ℕ) → n ≤ 1120 → Rounded (I * X) (2 ^ 51 * D) P E → Rounded (P * 2 + E) (E * 2) G F → G < (n + 1) * F → X * 2 ^ 32 * 8 ≤ n * H * D * 8 + 3 * (D * 2 ^ 32)
+rest-above n X D P E G F N r t h =
     let s = upper-3 (2 * n + 1) X D (upper-2 n X D P E (less n N) r (upper-1 n P E G F (less n N) t h)) in
-    le-trans (above-2 (n * D) X D (above-1 (n * D) X D (mul-le-mul-right D N) (subst (λ (z : ℕ). X * 2000000 < z * 693148) (twice-and n D) s)))
+    le-trans (above-2 (n * D) X D (above-1 (n * D) X D (mul-le-mul-right D N) (subst (λ (z : ℕ). X * 2000000 < z * 693148) (twice n D) s)))
     (le-of-eq (ap (λ (z : ℕ). z * 8 + 3 * (D * 2 ^ 32)) (mul-right-comm n D H)))
   where
     less : (n : ℕ) → n ≤ 1120 → n < 2000
     less n h = omega arith
 
-near-below : (n X D P E G F : ℕ) → n ≤ 1120 → Rounded (I * X) (2 ^ 51 * D) P E → Rounded (P * 2 + E) (E * 2) G F → n * F ≤ G → n * H * D * 8 ≤ X * 2 ^ 32 * 8 + 3 * (D * 2 ^ 32)
-near-below zero X D P E G F N r t h = none (0 * H) D (X * 2 ^ 32 * 8 + 3 * (D * 2 ^ 32)) (zero-mul H)
+    twice : (n d : ℕ) → (2 * n + 1) * d ≡ 2 * (n * d) + d
+    twice n d = omega arith
+
+rest-below : (n X D P E G F : ℕ) → n ≤ 1120 → Rounded (I * X) (2 ^ 51 * D) P E → Rounded (P * 2 + E) (E * 2) G F → n * F ≤ G → n * H * D * 8 ≤ X * 2 ^ 32 * 8 + 3 * (D * 2 ^ 32)
+rest-below zero X D P E G F N r t h = none (0 * H) D (X * 2 ^ 32 * 8 + 3 * (D * 2 ^ 32)) (zero-mul H)
   where
     none : (a D b : ℕ) → a ≡ 0 → a * D * 8 ≤ b
     none a D b e = rw e (omega (arith, zero-mul D))
-near-below (suc k) X D P E G F N r t h =
+rest-below (suc k) X D P E G F N r t h =
     let s = lower-3 (1024 * k + 510) X D (lower-2 k X D P E (less k N) r (lower-1 k P E G F (less k N) t (subst (λ (z : ℕ). z * F ≤ G) (sym (add-one k)) h))) in
     le-trans (le-of-eq (ap (λ (z : ℕ). z * 8) (mul-right-comm (suc k) H D)))
     (below-2 (suc k * D) X D (below-1 (k * D) (suc k * D) X D (suc-mul k D) (mul-le-mul-right D N) (subst (λ (z : ℕ). z * 693147 < X * 1024000000) (split k D) s)))
@@ -159,7 +130,7 @@ near-below (suc k) X D P E G F N r t h =
     less k h = omega arith
 
     split : (k f : ℕ) → (1024 * k + 510) * f ≡ 1024 * (k * f) + 510 * f
-    split k f = add-mul (1024 * k) 510 f ∙ ap (λ (z : ℕ). z + 510 * f) (mul-assoc 1024 k f)
+    split k f = omega arith
 
-pub near : (n X D P E G F : ℕ) → n ≤ 1120 → Rounded (I * X) (2 ^ 51 * D) P E → Rounded (P * 2 + E) (E * 2) G F → n * F ≤ G → G < (n + 1) * F → Near n X D
-near n X D P E G F N r t l u = record { not-above = near-above n X D P E G F N r t u; not-below = near-below n X D P E G F N r t l }
+pub small-rest : (n X D P E G F : ℕ) → n ≤ 1120 → Rounded (I * X) (2 ^ 51 * D) P E → Rounded (P * 2 + E) (E * 2) G F → n * F ≤ G → G < (n + 1) * F → SmallRest n X D
+small-rest n X D P E G F N r t l u = record { not-above = rest-above n X D P E G F N r t u; not-below = rest-below n X D P E G F N r t l }

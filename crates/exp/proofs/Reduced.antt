@@ -1,38 +1,34 @@
 -- The reduced argument of either case, and the y that it gives: no NaN, with an exponent to which k can be added. Assumes nothing.
 use mathlib.Core.Path.{_≡_, refl, sym, ap, _∙_, subst}
 use mathlib.Core.Bool.{Bool, true, false, not}
-use Prim.Native.Nat.{ℕ, zero, suc, _+_, _-_, _*_, _%_, _^_, _≤_, _<_}
+use Prim.Native.Nat.{ℕ, zero, suc, _+_, _-_, _*_, _^_, _≤_, _<_}
 use native.Mathlib.Nat.{le-trans, le-of-eq, le-of-lt, mul-one}
 use native.Mathlib.Omega.{arith}
-use borrow.Author.Tests.{le-ltb, le-leb, lt-leb}
+use borrow.Author.Tests.{le-leb, lt-leb}
 use lib.Dec.{T, lit<, lit≤}
 use lib.IntN.{ℤ, pos}
-use lib.Ieee.{Float, nan, inf, fin, binary64, up, down, fits, isNan, ofBits, toBits, nanBits, ofInt}
-use lib.Ieee.Bits.{nanBits-above}
+use lib.Ieee.{Float, nan, inf, fin, binary64, up, down, fits, isNan, ofBits, toBits, ofInt}
 use lib.Ieee.Exact.{HasValue}
 use Rattle.number.specs.Number.{_⊖_, _⊗_, float, patternOf}
 use Rattle.number.specs.Table.{_!_}
-use Rattle.rounding.proofs.Intervals.{Up}
+use Rattle.rounding.proofs.Intervals.{Up, wider, within-number}
 use Rattle.exp.specs.Exp.{ln2Hi, ln2Lo, twoM1000, signed, expPart, expScale, expWhole, expFar}
 use Rattle.exp.specs.Range.{Split, Sized}
 use Rattle.exp.proofs.Part.{part-bound, part-fits}
-use Rattle.exp.proofs.Reduce.{Near, H}
-use Rattle.exp.proofs.Far.{sgn, Far, far, difference-within}
-use Rattle.exp.proofs.Middle.{Middle, middle, number-within}
+use Rattle.exp.proofs.Reduce.{SmallRest, H}
+use Rattle.exp.proofs.Far.{sgn, Far, far, ln2-lo-up, difference-within}
+use Rattle.exp.proofs.Middle.{Middle, middle}
 use Rattle.exp.proofs.Size.{own, word-lt, word-ge}
 
 -- y, before k is added
 pub record Ready (y : Float) : Type 0 where
-  pub number : isNan y ≡ false
+  pub number : T (not (isNan y))
   pub exponent : Middle (patternOf y)
 
 pub ready : (hi lo : Float) → Up hi 384 1024 → Up lo 1 1024 → Ready (expPart hi lo)
 ready hi lo h l =
     let b = part-bound hi lo h l in
-    record { number = number-within (expPart hi lo) 1697 1024 (b .within .is); exponent = middle (expPart hi lo) (part-fits hi lo) b }
-
-pub is-number : {y : Float} → Ready y → T (not (isNan y))
-is-number r = subst (λ (b : Bool). T (not b)) (sym (r .number)) tt
+    record { number = within-number (expPart hi lo) 1697 1024 (b .within .is); exponent = middle (expPart hi lo) (part-fits hi lo) b }
 
 -- ---- far
 
@@ -41,8 +37,8 @@ abbrev pub farPart : Bool → Float → Float → Float
 farPart s x t = expPart (x ⊖ signed (sgn s) t ⊗ ln2Hi ! 0) (signed (sgn s) t ⊗ ln2Lo ! 0)
 
 pub far-sized : (s : Bool) (x : Float) → Sized s x → Far s x
-far-sized s nan h = absurd h
-far-sized s (inf t) h = absurd h
+far-sized s nan h = absurd (h .1)
+far-sized s (inf t) h = absurd (h .1)
 far-sized s (fin t m e) h = subst (λ (q : Bool). Far s (fin q m e)) (sym (h .0)) (far s m e (le-trans (le-of-eq (sym (mul-one (m * up e)))) (h .1)))
 
 -- n, t and y as the code computes them
@@ -54,7 +50,7 @@ pub record Made (s : Bool) (x : Float) (n : ℕ) (t y : Float) : Type 0 where
 pub far-few : (s : Bool) (x : Float) (n : ℕ) → Sized s x → n ≡ expWhole x (sgn s) → n ≤ 1120
 far-few s x n h e = subst (λ (z : ℕ). z ≤ 1120) (sym e) (far-sized s x h .n-le)
 
-y-at : {s : Bool} {x : Float} {n : ℕ} {t y : Float} → Made s x n t y → y ≡ farPart s x (ofInt binary64 (pos n))
+pub y-at : {s : Bool} {x : Float} {n : ℕ} {t y : Float} → Made s x n t y → y ≡ farPart s x (ofInt binary64 (pos n))
 y-at {s} {x} {n} {t} {y} m = m .y-is ∙ ap (farPart s x) (m .t-is)
 
 pub far-ready : {s : Bool} {x : Float} {n : ℕ} {t y : Float} → Sized s x → Made s x n t y → Ready y
@@ -83,17 +79,12 @@ unfolding ofBits H
 hi-value false = (refl, refl)
 hi-value true = (refl, refl)
 
-lo-up : (s : Bool) → Up (ln2Lo ! sgn s) 1 1024
-unfolding ofBits
-lo-up false = record { pos = lit< tt; is = lit≤ tt }
-lo-up true = record { pos = lit< tt; is = lit≤ tt }
-
-one-near : (X D : ℕ) → X * 1024 ≤ 1093 * D → 327 * D ≤ X * 1024 → Near 1 X D
+one-rest : (X D : ℕ) → X * 1024 ≤ 1093 * D → 327 * D ≤ X * 1024 → SmallRest 1 X D
 unfolding H
-one-near X D h k = record { not-above = omega arith; not-below = omega arith }
+one-rest X D h k = record { not-above = omega arith; not-below = omega arith }
 
 near-at : (s : Bool) (m : ℕ) (e : ℤ) → m * up e * 1024 ≤ 1093 * down e → 327 * down e ≤ m * up e * 1024 → Ready (expPart (fin s m e ⊖ ln2Hi ! sgn s) (ln2Lo ! sgn s))
-near-at s m e h k = ready _ _ (record { pos = lit< tt; is = difference-within s m e (ln2Hi ! sgn s) 1 (hi-value s) (one-near (m * up e) (down e) h k) }) (lo-up s)
+near-at s m e h k = ready _ _ (record { pos = lit< tt; is = difference-within s m e (ln2Hi ! sgn s) 1 (hi-value s) (one-rest (m * up e) (down e) h k) }) (wider 1 1024 tt (ln2-lo-up s))
 
 sgn-two : (s : Bool) → sgn s < 2
 sgn-two false = lit< tt
@@ -123,10 +114,3 @@ near-scale y (suc zero) r h = ap float (down (patternOf y) (r .exponent))
     down : (b : ℕ) → Middle b → b + 2 ^ 52 - 1 * 2 ^ 53 ≡ b - 1 * 2 ^ 52
     down b m = omega arith
 near-scale y (suc (suc s)) r h = absurd (omega arith)
-
--- no sum or difference of k and such a pattern is a NaN's, unless it is the largest k
-pub pattern-number : (b : ℕ) → b ≤ 0x7ff0_0000_0000_0000 → T (not (nanBits binary64 b))
-pattern-number b h = subst (λ (t : Bool). T (not t)) (sym (nanBits-above binary64 b ∙ le-ltb _ _ (low b h))) tt
-  where
-    low : (b : ℕ) → b ≤ 0x7ff0_0000_0000_0000 → b % 2 ^ 63 ≤ 0x7ff0_0000_0000_0000
-    low b h = omega arith

@@ -3,37 +3,31 @@
 use mathlib.Core.Path.{_≡_, refl, sym, subst}
 use mathlib.Core.Bool.{Bool, true, false, not, cond, true≢false}
 use mathlib.Core.Logic.{inl, inr}
-use Prim.Native.Nat.{ℕ, zero, suc, _+_, _-_, _*_, _/_, _%_, _^_, _≤_, _<_, min}
-use native.Mathlib.Nat.{le-trans, le-of-eq, lt-irrefl, lt-of-lt-of-le, lt-of-le-of-lt, lt-of-mul-lt-mul-right, mul-lt-mul-of-pos-right, mul-right-comm, div-lt-iff-lt-mul}
+use Prim.Native.Nat.{ℕ, zero, suc, _+_, _-_, _*_, _/_, _%_, _^_, _≤_, _<_}
 use native.Mathlib.Omega.{arith}
-use borrow.Author.Tests.{le-ltb, lt-ltb, le-leb, lt-leb, ltb-false}
-use lib.Pow.{pow-pos}
+use borrow.Author.Tests.{le-ltb, lt-ltb, le-leb, lt-leb}
 use lib.Dec.{T, lit<, lit≤}
 use lib.IntN.{ℤ, pos, negsuc}
-use lib.Ieee.{Float, nan, inf, fin, binary64, up, down, neg, add, sub, mul, round, lt, le, ofBits, toBits, toUnsigned, ofInt, fits, isNan}
-use lib.Ieee.Fits.{sub-fits, down-pos}
+use lib.Ieee.{Float, nan, inf, fin, binary64, up, down, add, mul, round, lt, le, ofBits, toBits, fits, isNan}
 use lib.Ieee.Exact.{HasValue}
-use lib.Ieee.Order.{le-of-values}
-use lib.Ieee.Positive.{positive, through}
-use Rattle.number.specs.Number.{_⊕_, _⊖_, _⊗_, _⊘_, float, patternOf, one, two}
+use Rattle.number.specs.Number.{_⊕_, _⊖_, _⊗_, _⊘_, float, patternOf, one, two, zero⁺}
 use Rattle.number.specs.Table.{_!_}
 use Rattle.rounding.specs.Bounds.{Within}
-use Rattle.rounding.specs.Signed.{+0, Signed}
+use Rattle.rounding.specs.Signed.{Signed}
 use Rattle.rounding.proofs.Choose.{le-or-lt}
-use Rattle.rounding.proofs.Signed.{le→units, zero-le-plus}
+use Rattle.rounding.proofs.Signed.{zero-le-plus}
 use Rattle.rounding.proofs.Round.{round-signed}
-use Rattle.rounding.proofs.Monotone.{add-monotone}
 use Rattle.rounding.proofs.Intervals.{Up, Lo, exact, wider, nearer, up-mul, up-add, up-sub, up-div, lo-add, lo-sub, lo-sub-2}
-use Rattle.rounding.proofs.Pattern.{unitsOf, units-mono, bits-value, pattern}
-use Rattle.rounding.proofs.Field.{is-positive}
-use Rattle.exp.specs.Exp.{invLn2, halves, ln2Hi, ln2Lo, huge, twoM1000, overAt, underAt, expPoly, expZero, expPart, expScale, signed, expWhole, expFar, expNear, expReduce, expLarge, expOf}
+use Rattle.rounding.proofs.Constants.{one-up, one-lo, two-up, two-lo}
+use Rattle.rounding.proofs.Pattern.{bits-value}
+use Rattle.exp.specs.Exp.{ln2Hi, ln2Lo, huge, twoM1000, overAt, underAt, expPoly, expZero, expPart, expScale, expWhole, expFar, expNear, expReduce, expLarge, expOf}
 use Rattle.exp.specs.Range.{Split, Sized}
-use Rattle.exp.proofs.Part.{Bounded, part-bound, part-fits, poly-bound, one-up, one-lo, two-up, two-lo}
-use Rattle.exp.proofs.Far.{sgn, tOf}
+use Rattle.exp.proofs.Part.{poly-bound}
+use Rattle.exp.proofs.Far.{sgn}
 use Rattle.exp.proofs.Middle.{Middle}
-use Rattle.exp.proofs.Size.{own, word-lt, within-range}
-use Rattle.exp.proofs.Reduced.{Ready, farPart, far-sized, ready, near-ready}
-use Rattle.exp.proofs.Top.{loTop, hiTop, number, part-top}
+use Rattle.exp.proofs.Size.{own, word-lt, below-large, within-range}
+use Rattle.exp.proofs.Reduced.{Ready, far-sized, near-ready}
+use Rattle.exp.proofs.Over.{far-y, far-sum}
 
 -- ---- what has its sign clear
 
@@ -86,120 +80,13 @@ down-signed y n r h = elim (le-or-lt n 1021) [
 
 -- ---- far, below zero and above
 
-abbrev farAt : Bool → Float → ℕ → Float
-farAt s x n = farPart s x (ofInt binary64 (pos n))
-
-far-y : (s : Bool) (x : Float) → Sized s x → Ready (farAt s x (expWhole x (sgn s)))
-far-y s x h = let w = far-sized s x h in ready _ _ (w .hi-up) (w .lo-up)
-
 far-down : (x : Float) → Sized true x → Signed false (expFar x 1)
 unfolding expFar
 far-down x h = down-signed _ (expWhole x 1) (far-y true x h) (far-sized true x h .n-le)
 
--- x is at most the overflow threshold, 6243314768165359 / 2 ^ 43
-abbrev Cap : ℕ → ℤ → Type 0
-Cap m e = m * up e * 2 ^ 43 ≤ 6243314768165359 * down e
-
--- n is then at most 1024
-cut-le : (x : Float) (a c k : ℕ) → 0 < c → a < (k + 1) * c → Within x a c → toUnsigned 64 x ≤ k
-unfolding toUnsigned
-cut-le nan a c k C h w = absurd w
-cut-le (inf s) a c k C h w = absurd w
-cut-le (fin true m e) a c k C h w = omega arith
-cut-le (fin false m e) a c k C h w =
-    go (m * up e / down e) k
-    (div-lt-iff-lt-mul (down-pos e) .1
-    (lt-of-mul-lt-mul-right c (lt-of-le-of-lt w (lt-of-lt-of-le (mul-lt-mul-of-pos-right h (down-pos e)) (le-of-eq (mul-right-comm (k + 1) c (down e)))))))
-  where
-    go : (q k : ℕ) → q < k + 1 → min q (2 ^ 64 - 1) ≤ k
-    go q k h = omega arith
-
-inv-up : Up invLn2 94549 65536
-unfolding ofBits
-inv-up = record { pos = lit< tt; is = lit≤ tt }
-
-half-up : Up (halves ! 0) 2147483648 4294967296
-unfolding ofBits
-half-up = record { pos = lit< tt; is = lit≤ tt }
-
-cap-few : (m : ℕ) (e : ℤ) → Cap m e → expWhole (fin false m e) 0 ≤ 1024
-unfolding exact signed expWhole
-cap-few m e h =
-    let x : Up (fin false m e) 46516797 65536 = record { pos = lit< tt; is = through (m * up e) 6243314768165359 46516797 (down e) (2 ^ 43) 65536 (pow-pos 43) h (lit≤ tt) } in
-    cut-le (invLn2 ⊗ fin false m e ⊕ halves ! 0) _ 4294967296 1024 (lit< tt) (lit< tt) (up-add tt (up-mul tt inv-up x) half-up .is)
-
--- the pattern of what is at most 1
-one-value : HasValue one false (2 ^ 1074) (2 ^ 1074)
-unfolding ofBits
-one-value = (refl, refl)
-
-one-pattern : (y : Float) → T (fits binary64 y) → T (positive y) → T (le y one) → patternOf y ≤ 1023 * 2 ^ 52
-one-pattern y f p h = elim (le-or-lt (patternOf y) (1023 * 2 ^ 52)) [
-  | inl l ↦ l
-  | inr g ↦
-      absurd
-      (lt-irrefl (2 ^ 1074)
-      (lt-of-lt-of-le (lit< tt)
-      (le-trans (units-mono (1023 * 2 ^ 52 + 1) (patternOf y) (next (patternOf y) g)) (le→units y one (unitsOf (patternOf y)) (2 ^ 1074) (2 ^ 1074) (pow-pos 1074) (pattern y f p .value) one-value h))))
-]
-  where
-    next : (b : ℕ) → 1023 * 2 ^ 52 < b → 1023 * 2 ^ 52 + 1 ≤ b
-    next b g = omega arith
-
--- n = 1024: hi is at most what the threshold leaves, so y is at most 1
-over-value : HasValue overAt false 6243314768165359 (2 ^ 43)
-unfolding ofBits
-over-value = (refl, refl)
-
-cap-le : (m : ℕ) (e : ℤ) → Cap m e → T (le (fin false m e) overAt)
-cap-le m e h = le-of-values (fin false m e) overAt (m * up e) (down e) 6243314768165359 (2 ^ 43) (down-pos e) (pow-pos 43) (refl, refl) over-value h
-
-abbrev hiPart : Float
-hiPart = fin false 0xB172_17F7 (negsuc 21)
-
-hi-is : tOf false 1024 ⊗ ln2Hi ! 0 ≡ hiPart
-unfolding mul ofBits signed ofInt
-hi-is = refl
-
-lo-is : tOf false 1024 ⊗ ln2Lo ! 0 ≡ loTop
-unfolding mul ofBits signed ofInt
-lo-is = refl
-
-hi-top : (x : Float) → T (le x overAt) → Up (x ⊖ hiPart) 384 1024 → T (le (x ⊖ hiPart) hiTop)
-unfolding sub neg ofBits
-hi-top x h u = add-monotone binary64 x overAt (neg hiPart) (neg hiPart) h (unfold le in tt) (number _ 384 1024 (u .is)) (unfold add isNan in tt)
-
-top-le : (x : Float) → T (le x overAt) → Up (x ⊖ tOf false 1024 ⊗ ln2Hi ! 0) 384 1024 → T (le (farAt false x 1024) one)
-top-le x h u =
-    let v : Up (x ⊖ hiPart) 384 1024 = subst (λ (z : Float). Up (x ⊖ z) 384 1024) hi-is u in
-    rw (hi-is, lo-is) (part-top (x ⊖ hiPart) (sub-fits binary64 x hiPart) v (hi-top x h v))
-
-far-in : (x : Float) (n : ℕ) → T (le x overAt) → n ≤ 1024 → Up (x ⊖ tOf false n ⊗ ln2Hi ! 0) 384 1024 → Bounded (farAt false x n) → Ready (farAt false x n) → patternOf (farAt false x n) + n * 2 ^ 52 ≤ 2047 * 2 ^ 52
-far-in x n h l u w r = elim (le-or-lt n 1023) [
-  | inl g ↦ sums (patternOf (farAt false x n)) n (r .exponent) g
-  | inr g ↦
-      let e : 1024 ≡ n = is n g l in
-      subst (λ (k : ℕ). patternOf (farAt false x n) + k * 2 ^ 52 ≤ 2047 * 2 ^ 52) e
-      (top-sum (patternOf (farAt false x n))
-      (one-pattern (farAt false x n) (part-fits _ _) (is-positive (farAt false x n) 351 1024 (lit< tt) (w .from .is))
-      (subst (λ (k : ℕ). Up (x ⊖ tOf false k ⊗ ln2Hi ! 0) 384 1024 → T (le (farAt false x k) one)) e (top-le x h) u)))
-]
-  where
-    sums : (b n : ℕ) → Middle b → n ≤ 1023 → b + n * 2 ^ 52 ≤ 2047 * 2 ^ 52
-    sums b n m h = omega arith
-
-    is : (n : ℕ) → 1023 < n → n ≤ 1024 → 1024 ≡ n
-    is n g l = omega arith
-
-    top-sum : (b : ℕ) → b ≤ 1023 * 2 ^ 52 → b + 1024 * 2 ^ 52 ≤ 2047 * 2 ^ 52
-    top-sum b h = omega arith
-
-far-up : (m : ℕ) (e : ℤ) → Sized false (fin false m e) → Cap m e → Signed false (expFar (fin false m e) 0)
+far-up : (x : Float) → Sized false x → lt overAt x ≡ false → Signed false (expFar x 0)
 unfolding expFar
-far-up m e h c =
-    let x : Float = fin false m e in
-    let w = far-sized false x h in
-    up-signed _ (expWhole x 0) (far-in x (expWhole x 0) (cap-le m e c) (cap-few m e c) (w .hi-up) (part-bound _ _ (w .hi-up) (w .lo-up)) (far-y false x h))
+far-up x h o = up-signed _ (expWhole x 0) (far-sum x h o)
 
 -- ---- near: k is 1 or -1
 near-signed : (x : Float) (hx s : ℕ) → T (fits binary64 x) → Split x hx s → 0x3fd6_2e42 < hx → hx < 0x3ff0_a2b2 → Signed false (expNear x s)
@@ -232,33 +119,25 @@ tiny-signed x h = lo-signed _ 1023 1024 (lo-add tt one-lo h (up-add tt one-up h)
 
 -- ---- by the high word: x is `fin s m e`
 
-far-signed : (s : Bool) (m : ℕ) (e : ℤ) → Within (fin s m e) 746 1 → (s ≡ false → Cap m e) → Signed false (expFar (fin s m e) (sgn s))
-far-signed false m e w c = far-up m e (refl, w) (c refl)
-far-signed true m e w c = far-down (fin true m e) (refl, w)
+far-signed : (s : Bool) (m : ℕ) (e : ℤ) → Within (fin s m e) 746 1 → lt overAt (fin s m e) ≡ false → Signed false (expFar (fin s m e) (sgn s))
+far-signed false m e w o = far-up (fin false m e) (refl, w) o
+far-signed true m e w o = far-down (fin true m e) (refl, w)
 
-reduce-signed : (s : Bool) (m : ℕ) (e : ℤ) (hx : ℕ) → T (fits binary64 (fin s m e)) → Split (fin s m e) hx (sgn s) → Within (fin s m e) 746 1 → (s ≡ false → Cap m e) → Signed false (expReduce (fin s m e) hx (sgn s))
+reduce-signed : (s : Bool) (m : ℕ) (e : ℤ) (hx : ℕ) → T (fits binary64 (fin s m e)) → Split (fin s m e) hx (sgn s) → Within (fin s m e) 746 1 → lt overAt (fin s m e) ≡ false → Signed false (expReduce (fin s m e) hx (sgn s))
 unfolding expReduce
-reduce-signed s m e hx f p w c = elim (le-or-lt hx 0x3fd6_2e42) [
+reduce-signed s m e hx f p w o = elim (le-or-lt hx 0x3fd6_2e42) [
   | inl l ↦ rw (le-ltb 0x3fd6_2e42 hx l) (elim (le-or-lt 0x3e30_0000 hx) [
     | inl g ↦ rw (le-ltb hx 0x3e30_0000 g) (zero-signed (fin s m e) (record { pos = lit< tt; is = word-lt s m e 0x3fd6_2e43 3 8 (own s m e f) (subst (λ (z : ℕ). z < 0x3fd6_2e43) (p .word) (suc-le l)) (lit≤ tt) }))
     | inr g ↦ rw (lt-ltb hx 0x3e30_0000 g) (tiny-signed (fin s m e) (record { pos = lit< tt; is = word-lt s m e 0x3e30_0000 1 1024 (own s m e f) (subst (λ (z : ℕ). z < 0x3e30_0000) (p .word) g) (lit≤ tt) }))
   ])
   | inr l ↦ rw (lt-ltb 0x3fd6_2e42 hx l) (elim (le-or-lt 0x3ff0_a2b2 hx) [
-    | inl g ↦ rw (le-ltb hx 0x3ff0_a2b2 g) (far-signed s m e w c)
+    | inl g ↦ rw (le-ltb hx 0x3ff0_a2b2 g) (far-signed s m e w o)
     | inr g ↦ rw (lt-ltb hx 0x3ff0_a2b2 g) (near-signed (fin s m e) hx (sgn s) f p l g)
   ])
 ]
   where
     suc-le : {a : ℕ} → a ≤ 0x3fd6_2e42 → a < 0x3fd6_2e43
     suc-le {a} h = omega arith
-
-over-cap : (m : ℕ) (e : ℤ) → lt overAt (fin false m e) ≡ false → Cap m e
-unfolding lt ofBits
-over-cap m e h = ltb-false (6243314768165359 * 1 * down e) (m * up e * 2 ^ 43) h
-
-cap-of : (s : Bool) (m : ℕ) (e : ℤ) → lt overAt (fin s m e) ≡ false → s ≡ false → Cap m e
-cap-of false m e h z = over-cap m e h
-cap-of true m e h z = absurd (true≢false z)
 
 large-signed : (s : Bool) (m : ℕ) (e : ℤ) (hx : ℕ) → T (fits binary64 (fin s m e)) → Split (fin s m e) hx (sgn s) → hx < 0x7ff0_0000 → Signed false (expLarge (fin s m e) hx (sgn s))
 unfolding expLarge
@@ -267,7 +146,7 @@ large-signed s m e hx f p h = rw (lt-leb 0x7ff0_0000 hx h) (go (lt overAt (fin s
     go : (o u : Bool) → lt overAt (fin s m e) ≡ o → lt (fin s m e) underAt ≡ u → Signed false (cond o (huge ⊗ huge) (cond u (twoM1000 ⊗ twoM1000) (expReduce (fin s m e) hx (sgn s))))
     go true u x y = unfold mul ofBits round in refl
     go false true x y = unfold mul ofBits round in refl
-    go false false x y = reduce-signed s m e hx f p (within-range (fin s m e) hx (sgn s) (unfold isNan in refl) p h x y) (cap-of s m e x)
+    go false false x y = reduce-signed s m e hx f p (within-range (fin s m e) hx (sgn s) (unfold isNan in refl) p h x y) x
 
 finite-signed : (s : Bool) (m : ℕ) (e : ℤ) → T (fits binary64 (fin s m e)) → Signed false (expOf (fin s m e))
 unfolding expOf
@@ -280,7 +159,7 @@ finite-signed s m e f =
       | inl l ↦ rw (le-leb 0x4086_2e42 hx l) (large-signed s m e hx f p (word (patternOf (fin s m e) % 2 ^ 63) (o .below)))
       | inr l ↦
           rw (lt-leb 0x4086_2e42 hx l)
-          (reduce-signed s m e hx f p (word-lt s m e 0x4086_2e42 746 1 o l (lit≤ tt)) (λ z. word-lt s m e 0x4086_2e42 6243314768165359 (2 ^ 43) o l (lit≤ tt)))
+          (let r = below-large (fin s m e) hx (sgn s) f (unfold isNan in refl) p l in reduce-signed s m e hx f p (r .0) (r .1))
     ])
   where
     word : (b : ℕ) → b < 0x7ff0_0000_0000_0000 → b / 2 ^ 32 < 0x7ff0_0000
@@ -309,5 +188,5 @@ exp-number x f h = go (expOf x) (exp-signed x f h)
     go (inf t) s = unfold isNan in tt
     go (fin t m e) s = unfold isNan in tt
 
-pub exp-nonneg : (x : Float) → T (fits binary64 x) → T (not (isNan x)) → T (le +0 (expOf x))
+pub exp-nonneg : (x : Float) → T (fits binary64 x) → T (not (isNan x)) → T (le zero⁺ (expOf x))
 exp-nonneg x f h = zero-le-plus (expOf x) (exp-signed x f h)

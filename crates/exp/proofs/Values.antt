@@ -2,7 +2,7 @@
 use mathlib.Core.List.{[], _∷_}
 use lib.Dec.{T}
 use lib.Ieee.{ofBits, toBits, add, sub, mul, div, neg, lt, toUnsigned, ofInt}
-use Rattle.number.specs.Values.{agrees, _gives_}
+use Rattle.number.proofs.Values.{agrees, _gives_}
 use Rattle.exp.specs.Exp.{expOf, expPoly, expZero, expPart, expScale, signed, expWhole, expFar, expNear, expReduce, expLarge}
 
 pub exp-values : T (agrees expOf (

@@ -1,5 +1,4 @@
 -- For |f| ≤ 7/16 and |k| ≤ 1075, each way that the logarithm ends is at most 746 in size. Assumes nothing.
-use mathlib.Core.Path.{refl}
 use mathlib.Core.Bool.{Bool, true, false, cond}
 use Prim.Native.Nat.{ℕ}
 use lib.Dec.{lit<, lit≤}
@@ -7,7 +6,8 @@ use lib.Ieee.{Float, ofBits, eq}
 use Rattle.number.specs.Number.{_<?_, _=?_, _⊕_, _⊖_, _⊗_, _⊘_, zero⁺, half, two}
 use Rattle.number.specs.Table.{_!_}
 use Rattle.rounding.proofs.Intervals.{Up, Lo, exact, wider, up-mul, up-add, up-sub, lo-add, up-div-to}
-use Rattle.log.specs.Log.{logL, ln2Hi, ln2Lo, third, shift, logPoly, logClose, logMid, logOut, logFar}
+use Rattle.rounding.proofs.Constants.{zero-up, half-up, two-up, two-lo}
+use Rattle.log.specs.Log.{logL, ln2Hi, ln2Lo, third, dkOf, logPoly, logClose, logMid, logOut, logFar}
 
 -- ---- the constants
 
@@ -47,25 +47,9 @@ lo-up : Up ln2Lo 1 4194304
 unfolding ofBits
 lo-up = record { pos = lit< tt; is = lit≤ tt }
 
-half-up : Up half 1 2
-unfolding ofBits
-half-up = record { pos = lit< tt; is = lit≤ tt }
-
 third-up : Up third 3 8
 unfolding ofBits
 third-up = record { pos = lit< tt; is = lit≤ tt }
-
-zero-up : Up zero⁺ 0 1
-unfolding ofBits
-zero-up = record { pos = lit< tt; is = lit≤ tt }
-
-two-up : Up two 32 16
-unfolding ofBits
-two-up = record { pos = lit< tt; is = lit≤ tt }
-
-two-lo : Lo false two 32 16
-unfolding ofBits
-two-lo = record { is = (refl, lit≤ tt) }
 
 pub pick : (b : Bool) {x y : Float} {a c : ℕ} → Up x a c → Up y a c → Up (cond b x y) a c
 pick true u v = u
@@ -82,12 +66,12 @@ poly-up z h =
     let t2 : Up _ 12 128 = wider 12 128 tt (up-mul tt h (wider 3 4 tt (up-add tt l0 (wider 128 16384 tt (up-mul tt w (wider 1 2 tt (up-add tt l2 (wider 32 2048 tt (up-mul tt w (wider 1 2 tt (up-add tt l4 (wider 2 128 tt (up-mul tt w16 l6))))))))))))) in
     wider 1 8 tt (up-add tt t2 t1)
 
-module _ (a base : ℕ) (dk : Up (shift a base) 1075 1) where
-  hi-k : Up (shift a base ⊗ ln2Hi) 48834025 65536
+module _ (a base : ℕ) (dk : Up (dkOf a base) 1075 1) where
+  hi-k : Up (dkOf a base ⊗ ln2Hi) 48834025 65536
   unfolding exact
   hi-k = up-mul tt dk hi-up
 
-  lo-k : Up (shift a base ⊗ ln2Lo) 1 2048
+  lo-k : Up (dkOf a base ⊗ ln2Lo) 1 2048
   unfolding exact
   lo-k = wider 1 2048 tt (up-mul tt dk lo-up)
 

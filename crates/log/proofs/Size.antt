@@ -1,6 +1,6 @@
 -- The logarithm of each finite number above zero is finite, and at most 746 in size. Assumes nothing.
-use mathlib.Core.Path.{_≡_, refl, sym, ap, _∙_, subst}
-use mathlib.Core.Bool.{Bool, true, false, cond, true≢false}
+use mathlib.Core.Path.{_≡_, refl, sym, _∙_, subst}
+use mathlib.Core.Bool.{true, false, true≢false}
 use mathlib.Core.Logic.{inl, inr}
 use Prim.Native.Nat.{ℕ, suc, _+_, _-_, _*_, _/_, _%_, _^_, _≤_, _<_}
 use native.Mathlib.Nat.{le-trans, le-of-eq, lt-of-lt-of-le, lt-of-le-of-lt, not-le-of-lt, mul-le-mul-right, mul-pos}
@@ -8,7 +8,7 @@ use native.Mathlib.Omega.{arith}
 use borrow.Author.Tests.{lt-ltb, le-ltb, le-leb, lt-leb, ne-eqb}
 use lib.Dec.{T, ltb, lit<, lit≤}
 use lib.Pow.{pow-pos, shl-lt}
-use lib.Ieee.{Float, nan, inf, fin, binary64, up, down, neg, sum, add, sub, round, ofBits, ofInt, fits}
+use lib.Ieee.{Float, nan, inf, fin, binary64, up, down, neg, add, sub, round, ofBits, ofInt, fits}
 use lib.Ieee.Fits.{mul-fits, down-pos}
 use lib.Ieee.Exact.{HasValue, round-exact}
 use lib.Ieee.Back.{round-whole}
@@ -17,16 +17,16 @@ use lib.Ieee.Positive.{positive, positive-of-value, mul-at, through}
 use Rattle.number.specs.Number.{_⊖_, _⊗_, patternOf, float, one}
 use Rattle.rounding.specs.Bounds.{Within}
 use Rattle.rounding.proofs.Choose.{le-or-lt}
-use Rattle.rounding.proofs.Intervals.{Exact, Up, within-round}
-use Rattle.rounding.proofs.Pattern.{unitsAt, unitsOf, units-mono, units-of, bits-value, Pattern, pattern}
-use Rattle.log.specs.Log.{shift, two54, logNormal, logOf}
+use Rattle.rounding.proofs.Intervals.{Exact, Up, within-finite, within-round, within-difference}
+use Rattle.rounding.proofs.Pattern.{patternUnits, units-mono, subnormal-units, units-of, bits-value, Pattern, pattern}
+use Rattle.log.specs.Log.{dkOf, two54, logNormal, logOf}
 use Rattle.log.proofs.Bound.{pick, close-up, far-up}
 
 -- ---- k
 
-shift-up : (a base : ℕ) → a ≤ base + 1075 → base ≤ a + 1075 → Up (shift a base) 1075 1
+dk-up : (a base : ℕ) → a ≤ base + 1075 → base ≤ a + 1075 → Up (dkOf a base) 1075 1
 unfolding ofInt
-shift-up a base h k = elim (le-or-lt base a) [
+dk-up a base h k = elim (le-or-lt base a) [
   | inl l ↦ rw (le-leb base a l) (record { pos = lit< tt; is = within-round false (a - base) 1 1075 1 (lit< tt) (lit< tt) (omega arith) (round-whole binary64 false 1075 (lit≤ tt)) })
   | inr l ↦ rw (lt-leb base a l) (record { pos = lit< tt; is = within-round true (suc (base - suc a)) 1 1075 1 (lit< tt) (lit< tt) (omega arith) (round-whole binary64 false 1075 (lit≤ tt)) })
 ]
@@ -37,25 +37,18 @@ exact-7/16 : Exact 7 16
 unfolding round
 exact-7/16 = (refl, refl)
 
-apart : (A B D : ℕ) → 0 < D → A * 16 ≤ B * 16 + 7 * D → B * 16 ≤ A * 16 + 7 * D → Within (sum binary64 false A true B D) 7 16
-unfolding sum
-apart A B D P h k = go (ltb A B)
-  where
-    go : (q : Bool) → Within (cond q (round binary64 true (B - A) D) (round binary64 false (A - B) D)) 7 16
-    go true = within-round true (B - A) D 7 16 P (lit< tt) (omega arith) exact-7/16
-    go false = within-round false (A - B) D 7 16 P (lit< tt) (omega arith) exact-7/16
-
-from-one : (y : Float) (p : ℕ) → HasValue y false (unitsOf p) (2 ^ 1074) → 0x3fe6_a09c * 2 ^ 32 ≤ p → p ≤ 0x3ff6_a09c * 2 ^ 32 → Within (y ⊖ one) 7 16
+from-one : (y : Float) (p : ℕ) → HasValue y false (patternUnits p) (2 ^ 1074) → 0x3fe6_a09c * 2 ^ 32 ≤ p → p ≤ 0x3ff6_a09c * 2 ^ 32 → Within (y ⊖ one) 7 16
 unfolding sub add neg ofBits
 from-one nan p v h k = absurd v
 from-one (inf r) p v h k = absurd v
 from-one (fin true m e) p v h k = absurd (true≢false (v .0))
 from-one (fin false m e) p v h k =
-    apart (m * up e * 1) (1 * 1 * down e) (down e * 1) (mul-pos (down-pos e) (lit< tt))
+    within-difference false (m * up e * 1) (1 * 1 * down e) (down e * 1) 7 16 (mul-pos (down-pos e) (lit< tt)) (lit< tt)
     (above (m * up e) (down e)
-    (through (m * up e) (unitsOf p) 1449 (down e) (2 ^ 1074) 1024 (pow-pos 1074) (le-of-eq (v .1)) (le-trans (mul-le-mul-right 1024 (units-mono p (0x3ff6_a09c * 2 ^ 32) k)) (lit≤ tt))))
+    (through (m * up e) (patternUnits p) 1449 (down e) (2 ^ 1074) 1024 (pow-pos 1074) (le-of-eq (v .1)) (le-trans (mul-le-mul-right 1024 (units-mono p (0x3ff6_a09c * 2 ^ 32) k)) (lit≤ tt))))
     (below (m * up e) (down e)
-    (through 724 (unitsOf p) (m * up e) 1024 (2 ^ 1074) (down e) (pow-pos 1074) (le-trans (lit≤ tt) (mul-le-mul-right 1024 (units-mono (0x3fe6_a09c * 2 ^ 32) p h))) (le-of-eq (sym (v .1)))))
+    (through 724 (patternUnits p) (m * up e) 1024 (2 ^ 1074) (down e) (pow-pos 1074) (le-trans (lit≤ tt) (mul-le-mul-right 1024 (units-mono (0x3fe6_a09c * 2 ^ 32) p h))) (le-of-eq (sym (v .1)))))
+    exact-7/16
   where
     above : (X D : ℕ) → X * 1024 ≤ 1449 * D → X * 1 * 16 ≤ 1 * 1 * D * 16 + 7 * (D * 1)
     above X D h = omega arith
@@ -74,7 +67,7 @@ normal-up b base h k =
     let m : ℕ = b / 2 ^ 32 % 2 ^ 20 in
     let j : ℕ = (m + 0x9_5f64) / 2 ^ 20 in
     let a : ℕ = b / 2 ^ 52 + j in
-    let dk = shift-up a base (most b base h) (least b base k) in
+    let dk = dk-up a base (most b base h) (least b base k) in
     let f = f-up ((0x3ff - j) * 2 ^ 52 + b % 2 ^ 52) (low b) (high b) in
     pick (ltb ((m + 2) % 2 ^ 20) 3) (close-up a base dk _ f) (far-up a base dk _ m f)
   where
@@ -96,7 +89,7 @@ two54-value : HasValue two54 false (2 ^ 54) 1
 unfolding ofBits
 two54-value = (refl, refl)
 
-field-three : (b : ℕ) → 2 ^ 54 ≤ unitsOf b → 3 * 2 ^ 52 ≤ b
+field-three : (b : ℕ) → 2 ^ 54 ≤ patternUnits b → 3 * 2 ^ 52 ≤ b
 field-three b h = elim (le-or-lt (3 * 2 ^ 52) b) [
   | inl l ↦ l
   | inr l ↦ absurd (not-le-of-lt (lt-of-le-of-lt (units-mono b (3 * 2 ^ 52 - 1) (omega arith)) (lit< tt)) h)
@@ -111,20 +104,11 @@ scaled-value x b p h v =
 low-up : (x : Float) → T (positive x) → Pattern x (patternOf x) → patternOf x < 2 ^ 52 → Up (logNormal (patternOf (x ⊗ two54)) 1077) 746 1
 low-up x t p h =
     let y : Float = x ⊗ two54 in
-    let v = scaled-value x (patternOf x) t h (subst (λ (w : ℕ). HasValue x false w (2 ^ 1074)) (whole (patternOf x) h) (p .value)) in
+    let v = scaled-value x (patternOf x) t h (subst (λ (w : ℕ). HasValue x false w (2 ^ 1074)) (subnormal-units (patternOf x) h) (p .value)) in
     let q = pattern y (mul-fits binary64 x two54) (positive-of-value y (patternOf x * 2 ^ 54) (2 ^ 1074) v (mul-pos (p .some) (lit< tt))) in
-    let u : unitsOf (patternOf y) ≡ patternOf x * 2 ^ 54 = sym (units-of y _ (q .value)) ∙ units-of y _ v in
+    let u : patternUnits (patternOf y) ≡ patternOf x * 2 ^ 54 = sym (units-of y _ (q .value)) ∙ units-of y _ v in
     normal-up (patternOf y) 1077 (most (patternOf y) (q .below)) (least (patternOf y) (field-three (patternOf y) (subst (λ (w : ℕ). 2 ^ 54 ≤ w) (sym u) (some (patternOf x) (p .some)))))
   where
-    whole : (b : ℕ) → b < 2 ^ 52 → unitsOf b ≡ b
-    whole b h = ap (λ (i : ℕ). unitsAt i (b % 2 ^ 52)) (none b h) ∙ all b h
-      where
-        none : (b : ℕ) → b < 2 ^ 52 → b / 2 ^ 52 ≡ 0
-        none b h = omega arith
-
-        all : (b : ℕ) → b < 2 ^ 52 → b % 2 ^ 52 ≡ b
-        all b h = omega arith
-
     some : (b : ℕ) → 0 < b → 2 ^ 54 ≤ b * 2 ^ 54
     some b h = omega arith
 
@@ -136,9 +120,9 @@ low-up x t p h =
 
 -- ---- every number above zero
 
-pub log-size : (x : Float) → T (fits binary64 x) → T (positive x) → Up (logOf x) 746 1
+log-up : (x : Float) → T (fits binary64 x) → T (positive x) → Up (logOf x) 746 1
 unfolding logOf
-log-size x f p =
+log-up x f p =
     let w = pattern x f p in
     let b : ℕ = patternOf x in
     rw (ne-eqb (b % 2 ^ 63) 0 (some b (w .below) (w .some)), lt-leb (2 ^ 63) b (half b (w .below)), lt-leb 0x7ff0_0000_0000_0000 b (w .below))
@@ -159,10 +143,8 @@ log-size x f p =
     lo : (b : ℕ) → 1023 ≤ b / 2 ^ 52 + 1075
     lo b = omega arith
 
-within-finite : (x : Float) (a c : ℕ) → Within x a c → T (finite x)
-within-finite nan a c w = w
-within-finite (inf s) a c w = w
-within-finite (fin s m e) a c w = tt
+pub log-size : (x : Float) → T (fits binary64 x) → T (positive x) → Within (logOf x) 746 1
+log-size x f p = log-up x f p .is
 
 pub log-finite : (x : Float) → T (fits binary64 x) → T (positive x) → T (finite (logOf x))
-log-finite x f p = within-finite (logOf x) 746 1 (log-size x f p .is)
+log-finite x f p = within-finite (logOf x) 746 1 (log-size x f p)

@@ -2,7 +2,7 @@
 use mathlib.Core.List.{[], _∷_}
 use lib.Dec.{T}
 use lib.Ieee.{ofBits, toBits, add, sub, mul, div, neg, eq, ofInt}
-use Rattle.number.specs.Values.{agrees, _gives_}
+use Rattle.number.proofs.Values.{agrees, _gives_}
 use Rattle.log.specs.Log.{logOf, logPoly, logClose, logMid, logOut, logFar, logNormal}
 
 pub log-values : T (agrees logOf (

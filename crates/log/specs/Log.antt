@@ -37,13 +37,13 @@ third = float 0x3FD5_5555_5555_5555
 -- ---- log (1 + f) + k * ln 2
 
 -- k as a number: fdlibm's dk
-abbrev pub shift : ℕ → ℕ → Float
-shift a base = ofInt binary64 (minus a base)
+abbrev pub dkOf : ℕ → ℕ → Float
+dkOf a base = ofInt binary64 (minus a base)
 
--- |f| below 2 ^ -20
+-- |f| at most 2 ^ -20
 unfoldable pub logClose : Float → ℕ → ℕ → Float
 logClose f a base =
-    let dk = shift a base in
+    let dk = dkOf a base in
     let R = f ⊗ f ⊗ (half ⊖ third ⊗ f) in
     if eq f zero⁺ then if a =? base then zero⁺ else dk ⊗ ln2Hi ⊕ dk ⊗ ln2Lo
     else if a =? base then f ⊖ R
@@ -57,17 +57,17 @@ logPoly z =
     let t2 = z ⊗ (logL ! 0 ⊕ w ⊗ (logL ! 2 ⊕ w ⊗ (logL ! 4 ⊕ w ⊗ logL ! 6))) in
     t2 ⊕ t1
 
--- 1 + f between 1.38 and 1.42, where f * f / 2 is taken apart
+-- the significand before halving between 1.38 and 1.42, where f * f / 2 is taken apart
 unfoldable pub logMid : Float → Float → Float → ℕ → ℕ → Float
 logMid f s R a base =
-    let dk = shift a base in
+    let dk = dkOf a base in
     let hfsq = half ⊗ f ⊗ f in
     if a =? base then f ⊖ (hfsq ⊖ s ⊗ (hfsq ⊕ R))
     else dk ⊗ ln2Hi ⊖ (hfsq ⊖ (s ⊗ (hfsq ⊕ R) ⊕ dk ⊗ ln2Lo) ⊖ f)
 
 unfoldable pub logOut : Float → Float → Float → ℕ → ℕ → Float
 logOut f s R a base =
-    let dk = shift a base in
+    let dk = dkOf a base in
     if a =? base then f ⊖ s ⊗ (f ⊖ R)
     else dk ⊗ ln2Hi ⊖ (s ⊗ (f ⊖ R) ⊖ dk ⊗ ln2Lo ⊖ f)
 

@@ -1,7 +1,7 @@
 // The natural logarithm of binary64: fdlibm 5.3, e_log.c, operation by operation, each rounded once.
 // fdlibm's k is a - base here: a is the exponent's field, base its bias.
 ghost use mathlib.Core.Path.{_≡_};
-ghost use Rattle.log.specs.Log.{shift, logPoly, logClose, logMid, logOut, logFar, logNormal, logOf};
+ghost use Rattle.log.specs.Log.{dkOf, logPoly, logClose, logMid, logOut, logFar, logNormal, logOf};
 
 // Lg1 to Lg7
 const LOG_L: [f64; 7] = [
@@ -25,12 +25,12 @@ const MINUS_TWO54: f64 = -1.80143985094819840000e+16;
 
 // k as a number: both parts are whole and small, so the difference is exact, and no branch on its sign is needed
 fn shift(a: u32, base: u32) -> f64
-    ensures { λ r. ⌜ r ≡ shift a base ⌝ }
+    ensures { λ r. ⌜ r ≡ dkOf a base ⌝ }
 {
     a as f64 - base as f64
 }
 
-// |f| below 2 ^ -20: three terms of the series are enough
+// |f| at most 2 ^ -20: three terms of the series are enough
 fn log_close(f: f64, a: u32, base: u32) -> f64
     ensures { λ r. ⌜ r ≡ logClose f a base ⌝ }
 {
@@ -59,7 +59,7 @@ fn log_poly(z: f64) -> f64
     t2 + t1
 }
 
-// 1 + f between 1.38 and 1.42: f * f / 2 is taken apart, for its rounding would count there
+// The significand before halving between 1.38 and 1.42, where f * f / 2 is taken apart: its rounding would count there.
 fn log_mid(f: f64, s: f64, r: f64, a: u32, base: u32) -> f64
     ensures { λ x. ⌜ x ≡ logMid f s r a base ⌝ }
 {
@@ -107,6 +107,7 @@ fn log_normal(b: u64, base: u32) -> f64
     log_far(f, m, a, base)
 }
 
+// The natural logarithm: -infinity at zeros, a NaN below zero and of a NaN, infinity of infinity.
 pub fn log(x: f64) -> f64
     ensures { λ r. ⌜ r ≡ logOf x ⌝ }
 {

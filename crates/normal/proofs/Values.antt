@@ -2,7 +2,7 @@
 use mathlib.Core.List.{[], _∷_}
 use lib.Dec.{T}
 use lib.Ieee.{ofBits, toBits, add, sub, mul, neg}
-use Rattle.number.specs.Values.{agrees, _gives_}
+use Rattle.number.proofs.Values.{agrees, _gives_}
 use Rattle.normal.specs.Normal.{lnpdfOf}
 
 pub lnpdf-values : T (agrees lnpdfOf (

@@ -1,7 +1,7 @@
 -- What the tests `x != x`, `x < 0.0` and `x == 0.0` say of a number. Assumes nothing.
 use mathlib.Core.Path.{_≡_, refl, sym, ap, _∙_, subst}
 use mathlib.Core.Bool.{Bool, true, false, not, _&&_, _||_, true≢false, Bool·beq}
-use Prim.Native.Nat.{ℕ, zero, suc, _+_, _-_, _*_, _^_, _≤_, _<_}
+use Prim.Native.Nat.{ℕ, zero, suc, _+_, _*_, _^_, _≤_, _<_}
 use native.Mathlib.Nat.{le-refl, sub-self, zero-mul, mul-pos, mul-le-mul-left, pow-suc}
 use native.Mathlib.Omega.{arith}
 use borrow.Author.Tests.{le-ltb, eq-eqb, ltb-true, ltb-false}
@@ -67,9 +67,6 @@ is-zero (fin s (suc m) e) f h =
   where
     no : (m : ℕ) → suc m ≡ 0 → ⊥
     no m e = omega arith
-
-no-sign : (m u d : ℕ) → 0 < u → 0 * d + m * u * 1 ≤ 0 → m * u * 1 ≡ 0 * d
-no-sign m u d U h = omega arith
 
 pub above-zero : (x : Float) → lt x zero⁺ ≡ false → eq x zero⁺ ≡ false → x ≡ magnitudeOf x
 unfolding lt eq ofBits magnitudeOf

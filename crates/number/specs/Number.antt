@@ -1,5 +1,6 @@
 -- Numbers of binary64: the operations of document 01's steps, each rounded once (⊕ ⊖ ⊗ ⊘), bit patterns, tests, and what Rust has as
--- methods of f64: magnitude, is finite, max. After IEEE 754 as lib.Ieee has it, and document 01, "The steps" and "Slips to shut out".
+-- methods of f64: magnitude and max. That a number is finite is `finite` of lib.Ieee.Scale. After IEEE 754 as lib.Ieee has it, and
+-- document 01, "The steps" and "Slips to shut out".
 use Prim.Native.Nat.{ℕ}
 use mathlib.Core.Bool.{Bool, false, cond}
 use lib.Dec.{leb, ltb, eqb}

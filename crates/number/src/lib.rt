@@ -1,8 +1,5 @@
 // What Rust has as methods of f64, worked out by the program: bit patterns, magnitude, is finite, max.
 ghost use mathlib.Core.Path.{_≡_};
-ghost use Prim.Native.Nat.{_<_, _^_};
-ghost use lib.IntN.{pos};
-ghost use lib.Ieee.{binary64, ofInt};
 ghost use lib.Ieee.Scale.{finite};
 ghost use Rattle.number.specs.Number.{patternOf, float, magnitudeOf, maxOf};
 
@@ -24,14 +21,6 @@ pub fn of_pattern(n: u64) -> f64
         return 0.0 / 0.0;
     }
     f64::from_bits(n)
-}
-
-// A whole number as an f64, exactly. The signed conversion is one instruction, the unsigned one is five.
-pub fn of_whole(n: u64) -> f64
-    requires { ⌜ n < 2 ^ 31 ⌝ }
-    ensures { λ r. ⌜ r ≡ ofInt binary64 (pos n) ⌝ }
-{
-    (n as i32) as f64
 }
 
 // Rust's `abs`.

@@ -1,14 +1,14 @@
--- What the tests `x > 0.0` and `x == 0.0` say of `rootOf x`, and that a pattern up to the infinity's is no NaN's. Assumes nothing.
+-- What the tests `x > 0.0` and `x == 0.0` say of `rootOf x`, and that the pattern of a number above zero is no NaN's. Assumes nothing.
 use mathlib.Core.Path.{_≡_, refl, sym, ap, _∙_, subst}
 use mathlib.Core.Bool.{Bool, true, false, not, _&&_, _||_, true≢false, Bool·beq}
 use mathlib.Core.Logic.{_⊎_, inl, inr}
-use Prim.Native.Nat.{ℕ, zero, suc, _*_, _%_, _^_, _≤_, _<_}
+use Prim.Native.Nat.{ℕ, zero, suc, _*_, _≤_, _<_}
 use native.Mathlib.Nat.{zero-lt-suc, lt-irrefl, lt-of-lt-of-le, mul-le-mul-left, mul-pos}
 use native.Mathlib.Omega.{arith}
-use borrow.Author.Tests.{ltb-true, ltb-false, eq-eqb, le-ltb}
+use borrow.Author.Tests.{ltb-true, ltb-false, eq-eqb}
 use lib.Dec.{T, eqb, eqb→eq, lt→ltb}
 use lib.Ieee.{Float, nan, inf, fin, binary64, up, down, lt, eq, fits, isNan, nanBits, ofBits, toBits}
-use lib.Ieee.Bits.{nanBits-is, nanBits-above}
+use lib.Ieee.Bits.{nanBits-is}
 use lib.Ieee.Fits.{up-pos, and-l}
 use lib.Ieee.Positive.{positive}
 use Rattle.number.specs.Number.{zero⁺, patternOf, float}
@@ -73,13 +73,7 @@ not-a-number (fin false (suc m) e) h k = absurd (more (suc m * up e * 1) (down e
     more : (a d : ℕ) → a ≤ 0 * d → 0 < a → ⊥
     more a d h k = omega arith
 
--- ---- patterns of no NaN
-
-pub number-pattern : (n : ℕ) → n ≤ 0x7ff0_0000_0000_0000 → T (not (nanBits binary64 n))
-number-pattern n h = subst (λ (b : Bool). T (not b)) (sym (nanBits-above binary64 n ∙ le-ltb _ _ (under n h))) tt
-  where
-    under : (n : ℕ) → n ≤ 0x7ff0_0000_0000_0000 → n % 2 ^ 63 ≤ 0x7ff0_0000_0000_0000
-    under n h = omega arith
+-- ---- the pattern of a number above zero is no NaN's
 
 pub positive-pattern : (n : ℕ) → T (positive (float n)) → T (not (nanBits binary64 n))
 unfolding isNan

@@ -5,7 +5,7 @@ use native.Mathlib.Nat.{lt-of-lt-of-le, mul-assoc, pow-succ'}
 use native.Mathlib.Numerals.{add-one}
 use native.Mathlib.Omega.{arith}
 use lib.Pow.{pow-mono}
-use Rattle.root.proofs.Near.{odd-square, even-square}
+use Rattle.root.proofs.WholeRoot.{odd-square, even-square}
 
 -- after j steps: q is the root so far, rest what is above its square, low the digits to come at the top of 64 bits
 pub record Step (m q rest low j : ℕ) : Type 0 where

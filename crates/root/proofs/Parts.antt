@@ -4,8 +4,8 @@ use mathlib.Core.Path.{_≡_, sym, ap, _∙_}
 use Prim.Native.Nat.{ℕ, _+_, _-_, _*_, _/_, _%_, _^_, _≤_, _<_}
 use native.Mathlib.Nat.{mul-comm, mul-assoc, mul-add, add-mul, add-assoc, add-comm, add-left-comm, mul-left-comm, mul-le-mul}
 use native.Mathlib.Omega.{arith}
-use Rattle.root.specs.Steps.{Near}
-use Rattle.root.proofs.Near.{next-square}
+use Rattle.root.specs.Steps.{RoundsTo}
+use Rattle.root.proofs.WholeRoot.{next-square}
 
 -- the products that `excess` works out are small
 pub record Small (h l : ℕ) : Type 0 where
@@ -52,13 +52,13 @@ above m e high low Q w h u p l = go (no-wrap w)
 
 -- ---- which number is nearest, by the excess s
 
-pub settled-same : (n q s : ℕ) → s + q * q ≡ n + 2 ^ 54 → 2 ^ 54 < s + q → s ≤ 2 ^ 54 + q → Near n q
+pub settled-same : (n q s : ℕ) → s + q * q ≡ n + 2 ^ 54 → 2 ^ 54 < s + q → s ≤ 2 ^ 54 + q → RoundsTo n q
 settled-same n q s = go (q * q)
   where
     go : (S : ℕ) → s + S ≡ n + 2 ^ 54 → 2 ^ 54 < s + q → s ≤ 2 ^ 54 + q → (S < n + q) × (n ≤ S + q)
     go S e h k = omega arith
 
-pub settled-next : (n q s : ℕ) → s + q * q ≡ n + 2 ^ 54 → 2 ^ 54 + q < s → s ≤ 2 ^ 54 + 3 * q + 2 → Near n (q + 1)
+pub settled-next : (n q s : ℕ) → s + q * q ≡ n + 2 ^ 54 → 2 ^ 54 + q < s → s ≤ 2 ^ 54 + 3 * q + 2 → RoundsTo n (q + 1)
 settled-next n q s e h k = go (q * q) ((q + 1) * (q + 1)) e (next-square q)
   where
     go : (S S' : ℕ) → s + S ≡ n + 2 ^ 54 → S' ≡ S + (2 * q + 1) → (S' < n + (q + 1)) × (n ≤ S' + (q + 1))

@@ -9,8 +9,8 @@ use lib.Count.{leadingZeros, leading-top}
 use lib.Ieee.{binary64, size, ofBits}
 use lib.Ieee.Digits.{size-lt, size-le}
 use Rattle.number.specs.Number.{float}
-use Rattle.rounding.proofs.Pattern.{unitsAt, bits-value, units-of}
-use Rattle.root.specs.Root.{rootSquare, dropped, nearestRoot, rootPattern}
+use Rattle.rounding.proofs.Pattern.{unitsAt, patternUnits, subnormal-units, bits-value, units-of}
+use Rattle.root.specs.Root.{rootSquare, dropped, wholeRoot, rootPattern}
 
 -- n is sig * 2 ^ (50 + ex), and sig has 53 digits
 pub record Scaled (n sig ex : ℕ) : Type 0 where
@@ -25,8 +25,8 @@ power m i j k e = mul-assoc m (2 ^ i) (2 ^ j) ∙ ap (λ (z : ℕ). m * z) (sym 
 
 -- ---- the number with the pattern b, squared for its root
 
-square-at : (b : ℕ) → b < 0x7ff0_0000_0000_0000 → rootSquare (float b) ≡ unitsAt (b / 2 ^ 52) (b % 2 ^ 52) * 2 ^ 1074
-square-at b h = ap (λ (z : ℕ). z * 2 ^ 1074) (units-of (ofBits binary64 b) (unitsAt (b / 2 ^ 52) (b % 2 ^ 52)) (bits-value b h))
+square-at : (b : ℕ) → b < 0x7ff0_0000_0000_0000 → rootSquare (float b) ≡ patternUnits b * 2 ^ 1074
+square-at b h = ap (λ (z : ℕ). z * 2 ^ 1074) (units-of (ofBits binary64 b) (patternUnits b) (bits-value b h))
 
 -- from 2 ^ -1022 on
 pub normal : (b : ℕ) → 2 ^ 52 ≤ b → b < 0x7ff0_0000_0000_0000 → Scaled (rootSquare (float b)) (2 ^ 52 + b % 2 ^ 52) (b / 2 ^ 52 + 1023)
@@ -89,17 +89,11 @@ subnormal b p h =
       below = w .below;
       some = omega (arith, w .most);
       most = omega arith;
-      is = square-at b (small b h) ∙ ap (λ (i : ℕ). unitsAt i (b % 2 ^ 52) * 2 ^ 1074) (none b h) ∙ ap (λ (z : ℕ). z * 2 ^ 1074) (all b h) ∙ sym (power b (shiftOf b) (50 + (1024 - shiftOf b)) 1074 (omega (arith, w .most)));
+      is = square-at b (small b h) ∙ ap (λ (z : ℕ). z * 2 ^ 1074) (subnormal-units b h) ∙ sym (power b (shiftOf b) (50 + (1024 - shiftOf b)) 1074 (omega (arith, w .most)));
     }
   where
     small : (b : ℕ) → b < 2 ^ 52 → b < 0x7ff0_0000_0000_0000
     small b h = omega arith
-
-    none : (b : ℕ) → b < 2 ^ 52 → b / 2 ^ 52 ≡ 0
-    none b h = omega arith
-
-    all : (b : ℕ) → b < 2 ^ 52 → b % 2 ^ 52 ≡ b
-    all b h = omega arith
 
 -- ---- the exponent halved: n is m * 2 ^ 52 times 4 ^ k
 
@@ -141,10 +135,10 @@ module _ (sig ex : ℕ) (from : 2 ^ 52 ≤ sig) (below : sig < 2 ^ 53) (some : 2
       halved : (z : ℕ) → z ≡ 53 + (50 + ex) → (z - 105) / 2 ≡ ex / 2 - 1
       halved z e = omega arith
 
-  pub pattern-of : rootPattern (sig * 2 ^ (50 + ex)) ≡ (ex / 2 - 1) * 2 ^ 52 + nearestRoot (sig * 2 ^ (ex % 2) * 2 ^ 52)
+  pub pattern-of : rootPattern (sig * 2 ^ (50 + ex)) ≡ (ex / 2 - 1) * 2 ^ 52 + wholeRoot (sig * 2 ^ (ex % 2) * 2 ^ 52)
   unfolding rootPattern
   pattern-of =
       let k = ex / 2 - 1 in
-      ap (λ (z : ℕ). z * 2 ^ 52 + nearestRoot (sig * 2 ^ (50 + ex) / 4 ^ z)) drops
-      ∙ ap (λ (z : ℕ). k * 2 ^ 52 + nearestRoot (z / 4 ^ k)) (sym split)
-      ∙ ap (λ (z : ℕ). k * 2 ^ 52 + nearestRoot z) (mul-div-cancel (sig * 2 ^ (ex % 2) * 2 ^ 52) (one-le-pow k 4 (lit< tt)))
+      ap (λ (z : ℕ). z * 2 ^ 52 + wholeRoot (sig * 2 ^ (50 + ex) / 4 ^ z)) drops
+      ∙ ap (λ (z : ℕ). k * 2 ^ 52 + wholeRoot (z / 4 ^ k)) (sym split)
+      ∙ ap (λ (z : ℕ). k * 2 ^ 52 + wholeRoot z) (mul-div-cancel (sig * 2 ^ (ex % 2) * 2 ^ 52) (one-le-pow k 4 (lit< tt)))

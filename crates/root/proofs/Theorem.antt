@@ -12,7 +12,7 @@ use Rattle.number.specs.Number.{patternOf, float}
 use Rattle.rounding.proofs.Choose.{le-or-lt}
 use Rattle.rounding.proofs.Pattern.{pattern}
 use Rattle.rounding.proofs.Same.{same-number}
-use Rattle.root.specs.Root.{units, rootSquare, rootPattern, rootOf, NearestRoot, IsRoot}
+use Rattle.root.specs.Root.{unitsOf, rootSquare, rootPattern, rootOf, NearestRoot, IsRoot}
 use Rattle.root.proofs.Scaled.{normal, subnormal}
 use Rattle.root.proofs.Nearest.{scaled-nearest}
 
@@ -26,14 +26,14 @@ nearest x f p =
     let w = pattern x f p in
     subst (λ (z : Float). NearestRoot z (float (rootPattern (rootSquare z)))) (w .is) (by-pattern (patternOf x) (w .some) (w .below))
 
-not-below : (x r q : Float) → T (fits binary64 r) → T (fits binary64 q) → NearestRoot x r → NearestRoot x q → units r < units q → ⊥
+not-below : (x r q : Float) → T (fits binary64 r) → T (fits binary64 q) → NearestRoot x r → NearestRoot x q → unitsOf r < unitsOf q → ⊥
 not-below x r q f g h k l =
     lt-irrefl (4 * rootSquare x)
-    (lt-trans (subst (λ (z : ℕ). 4 * rootSquare x < z * z) (add-comm (units q) (units r)) (h .above q g (k .above-zero) l)) (k .below r f (h .above-zero) l))
+    (lt-trans (subst (λ (z : ℕ). 4 * rootSquare x < z * z) (add-comm (unitsOf q) (unitsOf r)) (h .above q g (k .above-zero) l)) (k .below r f (h .above-zero) l))
 
 nearest-unique : (x r q : Float) → T (fits binary64 r) → T (fits binary64 q) → NearestRoot x r → NearestRoot x q → r ≡ q
 nearest-unique x r q f g h k =
-    same-number r q f g (h .above-zero) (k .above-zero) (same (units r) (units q) (not-below x r q f g h k) (not-below x q r g f k h))
+    same-number r q f g (h .above-zero) (k .above-zero) (same (unitsOf r) (unitsOf q) (not-below x r q f g h k) (not-below x q r g f k h))
   where
     same : (a b : ℕ) → (a < b → ⊥) → (b < a → ⊥) → a ≡ b
     same a b p q = omega arith

@@ -2,9 +2,9 @@
 use mathlib.Core.List.{[], _∷_}
 use lib.Dec.{T}
 use lib.Ieee.{ofBits, toBits, size}
-use Rattle.number.specs.Values.{agrees, _gives_}
+use Rattle.number.proofs.Values.{agrees, _gives_}
 use Rattle.rounding.specs.Units.{inUnits}
-use Rattle.root.specs.Root.{rootOf, rootPattern, nearestRoot, cut}
+use Rattle.root.specs.Root.{rootOf, rootPattern, wholeRoot, cut}
 
 pub root-values : T (agrees rootOf (
     0x4010_0000_0000_0000 gives 0x4000_0000_0000_0000  -- 4 and 2
@@ -18,5 +18,5 @@ pub root-values : T (agrees rootOf (
     ∷ 0xFFF0_0000_0000_0000 gives 0x7FF8_0000_0000_0000
     ∷ 0x7FF8_0000_0000_0000 gives 0x7FF8_0000_0000_0000
     ∷ []))
-unfolding rootOf rootPattern nearestRoot cut size inUnits ofBits toBits
+unfolding rootOf rootPattern wholeRoot cut size inUnits ofBits toBits
 root-values = tt

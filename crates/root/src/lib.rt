@@ -4,13 +4,13 @@ ghost use mathlib.Core.Path.{_≡_};
 ghost use Prim.Native.Nat.{_+_, _*_, _<_, _≤_, _^_, _%_};
 ghost use Rattle.number.specs.Number.{float};
 ghost use Rattle.root.specs.Root.{rootPattern, rootSquare, rootOf, IsRoot};
-ghost use Rattle.root.specs.Steps.{Near};
+ghost use Rattle.root.specs.Steps.{RoundsTo};
 
 // The whole number nearest to the root of m * 2 ^ 52, two binary digits of that number at a step: q is the root
 // so far, rest what the digits so far are above its square, and low holds the digits to come at its top.
 fn by_digits(m: u64) -> u64
     requires { ⌜ (0 < m) × (m < 2 ^ 54) ⌝ }
-    ensures { λ r. ⌜ Near (m * 2 ^ 52) r × (r ≤ 2 ^ 53) ⌝ }
+    ensures { λ r. ⌜ RoundsTo (m * 2 ^ 52) r × (r ≤ 2 ^ 53) ⌝ }
 {
     let mut q: u64 = 0;
     let mut rest: u64 = 0;
@@ -48,10 +48,14 @@ fn guess(b: u64) -> u64
 {
     let v = f64::from_bits(b);
     let w = 0.5 * v;
+    // the usual bit trick for a reciprocal root, about 3 percent off: halving the pattern halves the exponent
     let start = f64::from_bits(0x5fe6_eb50_c7b5_37a9 - b / 2);
     let y = closer(w, closer(w, closer(w, start)));
     let r = v * y;
+    // less 2 ^ -53, half a unit in the last place of a number from 1 to 2, for `settled` tries the guess and the next number
     let below = r + ((v - r * r) * (0.5 * y) - 1.1102230246251565e-16);
+    // 2 ^ 52 times a number from 1 to 2 is its pattern less 1022 * 2 ^ 52. Modulo 2 ^ 54 that adds 2 ^ 53, and what is no such
+    // number stays below 2 ^ 54, which `settled` asks for
     (number::pattern(below) % 0x40_0000_0000_0000 + 0x20_0000_0000_0000) % 0x40_0000_0000_0000
 }
 
@@ -75,7 +79,7 @@ fn excess(m: u64, q: u64) -> u64
 // The whole number nearest to the root of m * 2 ^ 52: q or q + 1 where the excess says so, else by digits.
 fn settled(m: u64, q: u64) -> u64
     requires { ⌜ (0 < m) × (m < 2 ^ 54) × (q < 2 ^ 54) ⌝ }
-    ensures { λ r. ⌜ Near (m * 2 ^ 52) r × (r ≤ 2 ^ 54) ⌝ }
+    ensures { λ r. ⌜ RoundsTo (m * 2 ^ 52) r × (r ≤ 2 ^ 54) ⌝ }
 {
     let s = excess(m, q);
     if s + q > 0x40_0000_0000_0000 {

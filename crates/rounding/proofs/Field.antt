@@ -1,5 +1,4 @@
 -- A bound on a number above zero is one on the exponent's field of its pattern. Assumes nothing.
-use mathlib.Core.Path.{sym}
 use mathlib.Core.Bool.{true, false, true≢false}
 use mathlib.Core.Logic.{inl, inr}
 use Prim.Native.Nat.{ℕ, zero, suc, _+_, _*_, _/_, _%_, _^_, _≤_, _<_}
@@ -14,18 +13,14 @@ use lib.Ieee.Positive.{positive, through}
 use Rattle.rounding.specs.Bounds.{Within, From}
 use Rattle.rounding.proofs.Choose.{le-or-lt}
 use Rattle.rounding.proofs.Intervals.{not-zero}
-use Rattle.rounding.proofs.Pattern.{unitsAt, unitsOf, units-lt, units-ge, pattern}
+use Rattle.rounding.proofs.SignedSum.{units-within}
+use Rattle.rounding.proofs.Pattern.{unitsAt, patternUnits, units-lt, units-ge, pattern}
 
--- the bounds in units of 2 ^ -1074
+-- the bound from below in units of 2 ^ -1074
 from-units : (y : Float) (w a c : ℕ) → HasValue y false w (2 ^ 1074) → From false y a c → a * 2 ^ 1074 ≤ w * c
 from-units nan w a c v f = absurd v
 from-units (inf s) w a c v f = absurd v
 from-units (fin s m e) w a c v f = through a (m * up e) w c (down e) (2 ^ 1074) (down-pos e) (f .1) (le-of-eq (v .1))
-
-within-units : (y : Float) (w a c : ℕ) → HasValue y false w (2 ^ 1074) → Within y a c → w * c ≤ a * 2 ^ 1074
-within-units nan w a c v f = absurd v
-within-units (inf s) w a c v f = absurd v
-within-units (fin s m e) w a c v f = through w (m * up e) a (2 ^ 1074) (down e) c (down-pos e) (le-of-eq (sym (v .1))) f
 
 pub is-positive : (y : Float) (a c : ℕ) → 0 < a → From false y a c → T (positive y)
 is-positive nan a c A f = absurd f
@@ -39,7 +34,7 @@ field-above y a c x f A C h k = elim (le-or-lt (b / 2 ^ 52) x) [
   | inl l ↦
       absurd
       (lt-irrefl (a * 2 ^ 1074)
-      (lt-of-le-of-lt (from-units y (unitsOf b) a c (pattern y f (is-positive y a c A h) .value) h)
+      (lt-of-le-of-lt (from-units y (patternUnits b) a c (pattern y f (is-positive y a c A h) .value) h)
       (lt-of-lt-of-le (mul-lt-mul-of-pos-right (lt-of-lt-of-le (units-lt (b / 2 ^ 52) (b % 2 ^ 52) (rest b)) (pow-mono (sums (b / 2 ^ 52) x l))) C) k)))
   | inr g ↦ g
 ]
@@ -60,7 +55,7 @@ field-within y a c x f p C h k = elim (le-or-lt (b / 2 ^ 52) x) [
   | inr g ↦
       absurd
       (lt-irrefl (a * 2 ^ 1074)
-      (lt-of-lt-of-le k (le-trans (mul-le-mul-right c (larger (b / 2 ^ 52) (b % 2 ^ 52) g)) (within-units y (unitsOf b) a c (pattern y f p .value) h))))
+      (lt-of-lt-of-le k (le-trans (mul-le-mul-right c (larger (b / 2 ^ 52) (b % 2 ^ 52) g)) (units-within y false (patternUnits b) a c (pattern y f p .value) h))))
 ]
   where
     b : ℕ

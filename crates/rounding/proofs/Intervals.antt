@@ -7,11 +7,12 @@ use native.Mathlib.Nat.{le-refl, le-trans, le-of-eq, le-of-lt, lt-irrefl, lt-of-
 use native.Mathlib.Omega.{arith}
 use lib.Dec.{T, ltb, leb, eqb, eqb→eq, ltb→lt, leb→le}
 use borrow.Author.Tests.{le-ltb, lt-ltb}
-use lib.Ieee.{Float, nan, inf, fin, Format, binary64, unlike, up, down, round, neg, sum, add, sub, mul, div, le}
+use lib.Ieee.{Float, nan, inf, fin, binary64, unlike, up, down, round, neg, sum, add, sub, mul, div, le, isNan}
 use lib.Ieee.Fits.{up-pos, down-pos, and-l, and-r}
 use lib.Ieee.Exact.{HasValue}
 use lib.Ieee.Order.{round-mono}
 use lib.Ieee.Positive.{through}
+use lib.Ieee.Scale.{finite}
 use Rattle.rounding.specs.Bounds.{Within, From}
 use Rattle.rounding.specs.Signed.{Signed}
 use Rattle.rounding.proofs.Negate.{neg-round}
@@ -36,17 +37,21 @@ within-neg nan a c w = w
 within-neg (inf s) a c w = w
 within-neg (fin s m e) a c w = w
 
+-- a number with a bound is finite, and no NaN
+pub within-finite : (x : Float) (a c : ℕ) → Within x a c → T (finite x)
+within-finite nan a c w = w
+within-finite (inf s) a c w = w
+within-finite (fin s m e) a c w = tt
+
+pub within-number : (x : Float) (a c : ℕ) → Within x a c → T (not (isNan x))
+unfolding isNan
+within-number nan a c w = w
+within-number (inf s) a c w = tt
+within-number (fin s m e) a c w = tt
+
 -- ---- rounding
 
--- an infinity or a number, with the sign clear
-abbrev pub Plain : Float → Type 0
-Plain x = Signed false x
-
--- n / d rounded is plain
-pub plain-round : (f : Format) (n d : ℕ) → Plain (round f false n d)
-plain-round f n d = round-signed f false n d
-
-under : (x y : Float) (a c : ℕ) → Plain x → HasValue y false a c → T (le x y) → Within x a c
+under : (x y : Float) (a c : ℕ) → Signed false x → HasValue y false a c → T (le x y) → Within x a c
 unfolding le
 under nan y a c p v h = absurd p
 under (inf true) y a c p v h = absurd (true≢false p)
@@ -61,7 +66,7 @@ under (fin false m e) (fin false n d) a c p v h =
     through (m * up e) (n * up d) a (down e) (down d) c (down-pos d) (plain-tests (m * up e * down d) (n * up d * down e) h) (le-of-eq (v .1))
 
 within-plain : (n d a c : ℕ) → 0 < d → 0 < c → n * c ≤ a * d → Exact a c → Within (round binary64 false n d) a c
-within-plain n d a c D C h x = under (round binary64 false n d) (round binary64 false a c) a c (plain-round binary64 n d) x (round-mono binary64 n d a c D C h)
+within-plain n d a c D C h x = under (round binary64 false n d) (round binary64 false a c) a c (round-signed binary64 false n d) x (round-mono binary64 n d a c D C h)
 
 -- n / d ≤ a / c gives |round (±n / d)| ≤ a / c
 pub within-round : (s : Bool) (n d a c : ℕ) → 0 < d → 0 < c → n * c ≤ a * d → Exact a c → Within (round binary64 s n d) a c
@@ -121,7 +126,7 @@ unfolding sub
 within-sub x y a b c C v w k = within-add x (neg y) a b c C v (within-neg y b c w) k
 
 -- ---- bounds from below, with the sign
-over : (x y : Float) (a c b d : ℕ) → HasValue x false a c → Plain y → Within y b d → T (le x y) → From false y a c
+over : (x y : Float) (a c b d : ℕ) → HasValue x false a c → Signed false y → Within y b d → T (le x y) → From false y a c
 unfolding le
 over nan y a c b d v p w h = absurd v
 over (inf t) y a c b d v p w h = absurd v
@@ -139,7 +144,7 @@ from-neg s (inf r) a c w = w
 from-neg s (fin r m e) a c w = (ap not (w .0), w .1)
 
 from-plain : (n d a c b k : ℕ) → 0 < d → 0 < c → a * d ≤ n * c → Exact a c → Within (round binary64 false n d) b k → From false (round binary64 false n d) a c
-from-plain n d a c b k D C h x w = over (round binary64 false a c) (round binary64 false n d) a c b k x (plain-round binary64 n d) w (round-mono binary64 a c n d C D h)
+from-plain n d a c b k D C h x w = over (round binary64 false a c) (round binary64 false n d) a c b k x (round-signed binary64 false n d) w (round-mono binary64 a c n d C D h)
 
 -- |-x| ≤ a / c gives |x| ≤ a / c
 pub within-back : (x : Float) (a c : ℕ) → Within (neg x) a c → Within x a c
@@ -158,6 +163,25 @@ from-round true n d a c b k D C h x w =
 
 sub-mul : (a b c : ℕ) → (a - b) * c ≡ a * c - b * c
 sub-mul a b c = mul-comm (a - b) c ∙ mul-sub c a b ∙ ap (λ (z : ℕ). z - c * b) (mul-comm c a) ∙ ap (λ (z : ℕ). a * c - z) (mul-comm c b)
+
+-- A / D and B / D are at most a / c apart, and so is their difference, rounded
+pub within-difference : (s : Bool) (A B D a c : ℕ) → 0 < D → 0 < c → A * c ≤ B * c + a * D → B * c ≤ A * c + a * D → Exact a c → Within (sum binary64 s A (not s) B D) a c
+unfolding sum
+within-difference s A B D a c P C h k x = go s (ltb A B)
+  where
+    less : (A B : ℕ) → A * c ≤ B * c + a * D → (A - B) * c ≤ a * D
+    less A B h = le-trans (le-of-eq (sub-mul A B c)) (by (A * c) (B * c) (a * D) h)
+      where
+        by : (x y z : ℕ) → x ≤ y + z → x - y ≤ z
+        by x y z h = omega arith
+
+    pick : (q u v : Bool) → Within (cond q (round binary64 u (B - A) D) (round binary64 v (A - B) D)) a c
+    pick true u v = within-round u (B - A) D a c P C (less B A k) x
+    pick false u v = within-round v (A - B) D a c P C (less A B h) x
+
+    go : (s q : Bool) → Within (cond (Bool·beq s (not s)) (round binary64 s (A + B) D) (cond q (round binary64 (not s) (B - A) D) (round binary64 (s && ltb B A) (A - B) D))) a c
+    go true q = pick q false (ltb B A)
+    go false q = pick q true false
 
 -- a sum of a larger and a smaller has the larger's sign
 gap : (A B P Q : ℕ) (c : ℕ) → Q < P → P ≤ A * c → B * c ≤ Q → B < A
@@ -367,23 +391,3 @@ from-sub-2 s x y a b c i k C l v w e u = from-add-2 (not s) x (neg y) a b c i k 
 pub lo-sub-2 : {s : Bool} {x y : Float} {a b c i k : ℕ} → T (ltb b a && exact (a - b) c) → Up x b c → Lo s y a c → Up (sub binary64 x y) i k → Lo (not s) (sub binary64 x y) (a - b) c
 lo-sub-2 {s} {x} {y} {a} {b} {c} {i} {k} t v u w =
     record { is = from-sub-2 s x y a b c i k (v .pos) (ltb→lt b a (and-l (ltb b a) (exact (a - b) c) t)) (u .is) (v .is) (to-exact (a - b) c (and-r (ltb b a) (exact (a - b) c) t)) (w .is) }
-
-from-mul : (x y : Float) (a c b d i k : ℕ) → 0 < c → 0 < d → From false x a c → From false y b d → Exact (a * b) (c * d) → Within (mul binary64 x y) i k → From false (mul binary64 x y) (a * b) (c * d)
-unfolding mul
-from-mul nan y a c b d i k C D v w x u = absurd v
-from-mul (inf s) y a c b d i k C D v w x u = absurd v
-from-mul (fin true m e) y a c b d i k C D v w x u = absurd (true≢false (v .0))
-from-mul (fin false m e) nan a c b d i k C D v w x u = absurd w
-from-mul (fin false m e) (inf t) a c b d i k C D v w x u = absurd w
-from-mul (fin false m e) (fin true n g) a c b d i k C D v w x u = absurd (true≢false (w .0))
-from-mul (fin false m e) (fin false n g) a c b d i k C D v w x u =
-    from-round false (m * up e * (n * up g)) (down e * down g) (a * b) (c * d) i k (mul-pos (down-pos e) (down-pos g)) (mul-pos C D)
-    (le-trans (le-of-eq (mul-mul-mul-comm a b (down e) (down g))) (le-trans (mul-le-mul (v .1) (w .1)) (le-of-eq (mul-mul-mul-comm (m * up e) c (n * up g) d))))
-    x
-    u
-
--- (a / c) (b / d) ≤ x y, both with the sign clear
-pub lo-mul : {x y : Float} {a c b d i k : ℕ} → T (ltb 0 c && (ltb 0 d && exact (a * b) (c * d))) → Lo false x a c → Lo false y b d → Up (mul binary64 x y) i k → Lo false (mul binary64 x y) (a * b) (c * d)
-lo-mul {x} {y} {a} {c} {b} {d} {i} {k} t u v w =
-    let t1 = and-r (ltb 0 c) (ltb 0 d && exact (a * b) (c * d)) t in
-    record { is = from-mul x y a c b d i k (ltb→lt 0 c (and-l (ltb 0 c) (ltb 0 d && exact (a * b) (c * d)) t)) (ltb→lt 0 d (and-l (ltb 0 d) (exact (a * b) (c * d)) t1)) (u .is) (v .is) (to-exact (a * b) (c * d) (and-r (ltb 0 d) (exact (a * b) (c * d)) t1)) (w .is) }

@@ -35,6 +35,8 @@ pub mod Rows
 -- ---- bounds on the size, at binary64
 -- through the operations
 pub mod Intervals
+-- of zero, a half, one and two
+pub mod Constants
 -- from the bit pattern
 pub mod Pattern
 -- of a sum of numbers of either sign

@@ -101,7 +101,7 @@ not-lt→le (fin s m e) (fin t n d) p q h = at-most→tests t (n * up d * down e
     go false a true b h = zero-le
     go false a false b h = omega (arith, nltb→le a b h)
 
--- of two that are no NaN, one is at most the other
+-- of two that are no NaN, one is at most the other; nothing here uses it yet: the most likely course of labels, a later request, needs a largest number
 pub le-total-float : (x y : Float) → T (not (isNan x)) → T (not (isNan y)) → T (le x y) ⊎ T (le y x)
 le-total-float x y p q = go (lt x y) (lt→le x y) (not-lt→le x y p q)
   where

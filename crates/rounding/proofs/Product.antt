@@ -1,4 +1,5 @@
 -- Multiplication keeps the order in both arguments, over numbers not below zero (zeros of both signs and infinity included), where no NaN comes out. Assumes nothing.
+-- Nothing here uses it yet: the most likely course of labels, a later request, compares products of weights.
 use mathlib.Core.Path.{_≡_, sym, ap, _∙_, subst₂}
 use mathlib.Core.Bool.{Bool, true, false, not}
 use Prim.Native.Nat.{ℕ, _*_, _≤_, zero-le}
@@ -6,9 +7,10 @@ use native.Mathlib.Nat.{zero-mul, mul-pos, mul-le-mul}
 use native.Mathlib.Omega.{arith}
 use lib.IntN.{ℤ}
 use lib.Dec.{T}
-use lib.Ieee.{Float, nan, inf, fin, Format, unlike, up, down, mul, le, isNan}
+use lib.Ieee.{Float, nan, inf, fin, Format, unlike, up, down, mul, le, isNan, ofBits}
 use lib.Ieee.Fits.{down-pos}
-use Rattle.rounding.specs.Signed.{+0, AtMost}
+use Rattle.number.specs.Number.{zero⁺}
+use Rattle.rounding.specs.Signed.{AtMost}
 use Rattle.rounding.proofs.Signed.{tests→at-most, sign-of-nonneg, zero-times}
 use Rattle.rounding.proofs.Order.{highest}
 use Rattle.rounding.proofs.Round.{round-monotone}
@@ -27,7 +29,7 @@ sizes→at-most true a false b h k l = zero-le
 sizes→at-most false a true b h k l = omega (arith, k tt)
 sizes→at-most false a false b h k l = omega arith
 
-sizes : (s : Bool) (m : ℕ) (e : ℤ) (t : Bool) (n : ℕ) (d : ℤ) → T (le +0 (fin s m e)) → T (le +0 (fin t n d)) → T (le (fin s m e) (fin t n d)) → m * up e * down d ≤ n * up d * down e
+sizes : (s : Bool) (m : ℕ) (e : ℤ) (t : Bool) (n : ℕ) (d : ℤ) → T (le zero⁺ (fin s m e)) → T (le zero⁺ (fin t n d)) → T (le (fin s m e) (fin t n d)) → m * up e * down d ≤ n * up d * down e
 unfolding le
 sizes s m e t n d p q h =
     at-most→sizes s (m * up e * down d) t (n * up d * down e) (λ u. zero-times m (up e) (down d) (sign-of-nonneg s m e p u)) (λ u. zero-times n (up d) (down e) (sign-of-nonneg t n d q u))
@@ -40,9 +42,9 @@ times : (x c : ℕ) → x ≡ 0 → x * c ≡ 0
 times x c e = ap (λ (z : ℕ). z * c) e ∙ zero-mul c
 
 -- 0 ≤ x ≤ x' and 0 ≤ y ≤ y' give x y ≤ x' y', where neither product is a NaN
-pub mul-monotone : (f : Format) (x x' y y' : Float) → T (le +0 x) → T (le +0 x') → T (le +0 y) → T (le +0 y') → T (le x x') → T (le y y') → T (not (isNan (mul f x y))) → T (not (isNan (mul f x' y')))
+pub mul-monotone : (f : Format) (x x' y y' : Float) → T (le zero⁺ x) → T (le zero⁺ x') → T (le zero⁺ y) → T (le zero⁺ y') → T (le x x') → T (le y y') → T (not (isNan (mul f x y))) → T (not (isNan (mul f x' y')))
     → T (le (mul f x y) (mul f x' y'))
-unfolding le
+unfolding le ofBits
 mul-monotone f nan x' y y' p p' q q' h k n n' = absurd h
 mul-monotone f (inf true) x' y y' p p' q q' h k n n' = absurd p
 mul-monotone f (inf false) nan y y' p p' q q' h k n n' = absurd h

@@ -14,9 +14,9 @@ use lib.Ieee.Exact.{HasValue}
 use lib.Ieee.Fits.{up-pos, down-pos, and-i, and-l, and-r, div-fits}
 use lib.Ieee.Positive.{positive-of-value}
 use lib.Ieee.Scale.{grid, overflow, finite, round-same, round-val}
+use Rattle.number.specs.Number.{zero⁺}
 use Rattle.rounding.specs.Units.{inUnits, IsUnits}
 use Rattle.rounding.specs.Bounds.{Near}
-use Rattle.rounding.specs.Signed.{+0}
 use Rattle.rounding.specs.Sums.{good, every, total, exactTotal}
 use Rattle.rounding.specs.Shares.{divided, shares}
 use Rattle.rounding.proofs.Round.{round-zero}
@@ -96,7 +96,7 @@ pub record NearQuotient (f : Format) (q : Float) (a c : ℕ) : Type 0 where
   pub near : Near (inUnits f q * c * 2 + 2 ^ prec f * c) (2 ^ prec f * (inUnits f q * c) * 2) (2 ^ prec f * (a * 2 ^ low f) * 2)
 
 -- so is w / d, for w and d good, 0 < d and w ≤ 2 d
-pub quotient-error : (f : Format) (w d : Float) → T (good f w) → T (good f d) → T (lt +0 d) → inUnits f w ≤ 2 * inUnits f d → NearQuotient f (div f w d) (inUnits f w) (inUnits f d)
+pub quotient-error : (f : Format) (w d : Float) → T (good f w) → T (good f d) → T (lt zero⁺ d) → inUnits f w ≤ 2 * inUnits f d → NearQuotient f (div f w d) (inUnits f w) (inUnits f d)
 quotient-error f w d g k p h =
     let a = inUnits f w in
     let c = inUnits f d in
@@ -116,7 +116,7 @@ pub record NearQuotients (f : Format) (qs : List Float) (m s c : ℕ) : Type 0 w
   pub near : Near (exactTotal f qs * c * 2 + m * (2 ^ prec f * c)) (2 ^ prec f * (exactTotal f qs * c) * 2) (2 ^ prec f * (s * 2 ^ low f) * 2)
 
 -- so are ws each divided by d, for ws and d good, 0 < d and an exact sum of ws of at most 2 d
-pub quotients-error : (f : Format) (ws : List Float) (d : Float) → T (every (good f) ws) → T (good f d) → T (lt +0 d) → exactTotal f ws ≤ 2 * inUnits f d → NearQuotients f (divided f ws d) (length ws) (exactTotal f ws) (inUnits f d)
+pub quotients-error : (f : Format) (ws : List Float) (d : Float) → T (every (good f) ws) → T (good f d) → T (lt zero⁺ d) → exactTotal f ws ≤ 2 * inUnits f d → NearQuotients f (divided f ws d) (length ws) (exactTotal f ws) (inUnits f d)
 quotients-error f [] d g k p h = record { areGood = tt; bound = zero-le; near = none (2 ^ prec f) (2 ^ low f) (inUnits f d) }
   where
     none : (P U c : ℕ) → Near (0 * c * 2 + 0 * (P * c)) (P * (0 * c) * 2) (P * (0 * U) * 2)
@@ -146,7 +146,7 @@ quotients-error f (w ∷ ws) d g k p h =
     both P U c q Q m a S h k = omega (arith, h, k)
 
 -- so are m ≤ P good weights divided by their float sum, where that is finite and above zero
-pub shares-error : (f : Format) (ws : List Float) → length ws ≤ 2 ^ prec f → T (every (good f) ws) → T (finite (total f ws)) → T (lt +0 (total f ws)) → NearQuotients f (shares f ws) (length ws) (exactTotal f ws) (inUnits f (total f ws))
+pub shares-error : (f : Format) (ws : List Float) → length ws ≤ 2 ^ prec f → T (every (good f) ws) → T (finite (total f ws)) → T (lt zero⁺ (total f ws)) → NearQuotients f (shares f ws) (length ws) (exactTotal f ws) (inUnits f (total f ws))
 shares-error f ws few g t p =
     let sum = sum-error f ws g t in
     quotients-error f ws (total f ws) g (sum .isGood) p (twice (2 ^ prec f) (inUnits f (total f ws)) (exactTotal f ws) (length ws - 1) (pow-pos (prec f)) (less (length ws) (2 ^ prec f) few) (sum .near))

@@ -6,11 +6,12 @@ use native.Mathlib.Nat.{zero-mul, mul-pos, mul-le-mul-right}
 use native.Mathlib.Omega.{arith}
 use lib.Dec.{T, ltb}
 use lib.Pow.{pow-pos}
-use lib.Ieee.{Float, inf, Format, prec, emax, low, odd, units, round, le}
+use lib.Ieee.{Float, inf, Format, prec, emax, low, odd, units, round, le, ofBits}
 use lib.Ieee.Exact.{HasValue, round-exact}
 use lib.Ieee.Order.{round-mono, drop, kept}
 use lib.Ieee.Scale.{overflow, round-same}
-use Rattle.rounding.specs.Signed.{+0, Signed, AtMost}
+use Rattle.number.specs.Number.{zero⁺}
+use Rattle.rounding.specs.Signed.{Signed, AtMost}
 use Rattle.rounding.proofs.Negate.{neg-round}
 use Rattle.rounding.proofs.Signed.{at-most→le, minus-le-zero, zero-le-plus}
 use Rattle.rounding.proofs.Order.{le-trans-float, le-neg}
@@ -43,14 +44,15 @@ round-zero f s c C = round-exact f s 0 c 0 0 C (pow-pos (prec f)) (pow-pos (low 
     go u = omega arith
 
 -- a fraction rounded is not below zero if its sign is clear or it is zero
-pub round-nonneg : (f : Format) (s : Bool) (a c : ℕ) → 0 < c → (T s → a ≡ 0) → T (le +0 (round f s a c))
+pub round-nonneg : (f : Format) (s : Bool) (a c : ℕ) → 0 < c → (T s → a ≡ 0) → T (le zero⁺ (round f s a c))
+unfolding ofBits
 round-nonneg f false a c C h = zero-le-plus (round f false a c) (round-signed f false a c)
-round-nonneg f true a c C h = rw (h tt) (at-most→le +0 (round f true 0 c) false true 0 0 c C (refl, zero-mul c) (round-zero f true c C) zero-le)
+round-nonneg f true a c C h = rw (h tt) (at-most→le zero⁺ (round f true 0 c) false true 0 0 c C (refl, zero-mul c) (round-zero f true c C) zero-le)
 
 one-denominator : (f : Format) (s t : Bool) (a b c : ℕ) → 0 < c → AtMost s a t b → T (le (round f s a c) (round f t b c))
 one-denominator f true true a b c C h =
     subst₂ (λ (x y : Float). T (le x y)) (neg-round f false a c) (neg-round f false b c) (le-neg (round f false b c) (round f false a c) (round-mono f b c a c C C (mul-le-mul-right c (omega (arith, h)))))
-one-denominator f true false a b c C h = le-trans-float (round f true a c) +0 (round f false b c) (minus-le-zero (round f true a c) (round-signed f true a c)) (zero-le-plus (round f false b c) (round-signed f false b c))
+one-denominator f true false a b c C h = le-trans-float (round f true a c) zero⁺ (round f false b c) (minus-le-zero (round f true a c) (round-signed f true a c)) (zero-le-plus (round f false b c) (round-signed f false b c))
 one-denominator f false true a b c C h =
     let x : a ≡ 0 = omega arith in
     let y : b ≡ 0 = omega arith in

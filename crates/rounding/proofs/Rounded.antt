@@ -11,8 +11,10 @@ use lib.Ieee.{Float, nan, inf, fin, binary64, up, down, neg, round}
 use lib.Ieee.Fits.{down-pos}
 use lib.Ieee.Exact.{HasValue, round-exact}
 use Rattle.rounding.specs.Bounds.{Within, From}
+use Rattle.rounding.specs.Signed.{Signed}
 use Rattle.rounding.proofs.Negate.{neg-round}
-use Rattle.rounding.proofs.Intervals.{Exact, Plain, plain-round, within-round, from-round, within-back}
+use Rattle.rounding.proofs.Round.{round-signed}
+use Rattle.rounding.proofs.Intervals.{Exact, within-round, from-round, within-back}
 
 pub exact-signed : (s : Bool) (a k : ℕ) → a < 2 ^ 53 → k ≤ 1074 → HasValue (round binary64 s a (2 ^ k)) s a (2 ^ k)
 exact-signed s a k h l =
@@ -37,7 +39,7 @@ pub record Rounded (n d p e : ℕ) : Type 0 where
 Named : Bool → Float → Type 0
 Named s x = (m : ℕ) × (e : ℤ) × (x ≡ fin s m e)
 
-named : (x : Float) (a c : ℕ) → Plain x → Within x a c → Named false x
+named : (x : Float) (a c : ℕ) → Signed false x → Within x a c → Named false x
 unfolding Named
 named nan a c p w = absurd w
 named (inf s) a c p w = absurd w
@@ -46,9 +48,9 @@ named (fin false m e) a c p w = (m, e, refl)
 
 named-round : (s : Bool) (n d a c : ℕ) → Within (round binary64 s n d) a c → Named s (round binary64 s n d)
 unfolding Named neg
-named-round false n d a c w = named (round binary64 false n d) a c (plain-round binary64 n d) w
+named-round false n d a c w = named (round binary64 false n d) a c (round-signed binary64 false n d) w
 named-round true n d a c w =
-    let q = named (round binary64 false n d) a c (plain-round binary64 n d) (within-back (round binary64 false n d) a c (subst (λ (z : Float). Within z a c) (sym (neg-round binary64 false n d)) w)) in
+    let q = named (round binary64 false n d) a c (round-signed binary64 false n d) (within-back (round binary64 false n d) a c (subst (λ (z : Float). Within z a c) (sym (neg-round binary64 false n d)) w)) in
     (q .0, q .1, sym (neg-round binary64 false n d) ∙ ap neg (q .2))
 
 pub rounded : (s : Bool) (n d b k : ℕ) → 0 < d → Within (round binary64 s n d) b k → (m : ℕ) × (e : ℤ) × (round binary64 s n d ≡ fin s m e) × Rounded n d (m * up e) (down e)

@@ -10,11 +10,11 @@ use lib.IntN.{pos}
 use lib.Dec.{T, lit≤}
 use lib.ListN.{length, length-map}
 use lib.Pow.{pow-pos, pow-add, pow-mono}
-use lib.Ieee.{Float, fin, Format, binary32, binary64, prec, low, add, div, lt}
+use lib.Ieee.{Float, fin, Format, binary32, binary64, prec, low, add, div, lt, ofBits}
 use lib.Ieee.Scale.{overflow, finite}
+use Rattle.number.specs.Number.{zero⁺}
 use Rattle.rounding.specs.Units.{inUnits}
 use Rattle.rounding.specs.Bounds.{Near}
-use Rattle.rounding.specs.Signed.{+0}
 use Rattle.rounding.specs.Sums.{good, notBelow, every, total, exactTotal}
 use Rattle.rounding.specs.Shares.{shares, probability, sumTo, Demand3}
 use Rattle.rounding.proofs.Units.{positive-units}
@@ -86,8 +86,8 @@ pub record NearRow (f : Format) (k : ℕ) (ws : List Float) : Type 0 where
   pub near : Near (length ws * 2 ^ low f * 2) (2 ^ prec f * sumTo (λ i. inUnits f (probability f k ws i)) k) (2 ^ prec f * 2 ^ low f)
 
 -- so it is for m ≤ 256 good weights whose float sum is finite and above zero, and for any number k of labels
-pub row-error : (f : Format) (k : ℕ) (ws : List Float) → 0 < k → length ws ≤ 256 → T (every (good f) ws) → T (finite (total f ws)) → T (lt +0 (total f ws)) → NearRow f k ws
-row-error f k [] K few g t p = absurd (unfold lt in p)
+pub row-error : (f : Format) (k : ℕ) (ws : List Float) → 0 < k → length ws ≤ 256 → T (every (good f) ws) → T (finite (total f ws)) → T (lt zero⁺ (total f ws)) → NearRow f k ws
+row-error f k [] K few g t p = absurd (unfold lt ofBits in p)
 row-error f k (w ∷ ws) K few g t p =
     let P = 2 ^ prec f in
     let U = 2 ^ low f in
@@ -131,16 +131,16 @@ scale-down P F U W m p e h =
     (le-of-mul-le-mul-left {k = P} (omega (arith, x, h .0)) p, le-of-mul-le-mul-left {k = P} (omega (arith, x, h .1)) p)
 
 -- demand 3, for m ≤ 256 good weights whose float sum is finite and above zero
-pub demand-3 : (k : ℕ) (ws : List Float) → 0 < k → length ws ≤ 256 → T (every (good binary64) ws) → T (finite (total binary64 ws)) → T (lt +0 (total binary64 ws)) → Demand3 k ws
+pub demand-3 : (k : ℕ) (ws : List Float) → 0 < k → length ws ≤ 256 → T (every (good binary64) ws) → T (finite (total binary64 ws)) → T (lt zero⁺ (total binary64 ws)) → Demand3 k ws
 demand-3 k ws K few g t p =
     let r = row-error binary64 k ws K few g t p in
     record { each = r .each; near = scale-down (2 ^ 53) (sumTo (λ i. inUnits binary64 (probability binary64 k ws i)) k) (2 ^ 1074) (2 ^ 1022) (length ws) (pow-pos 53) refl (r .near) }
 
 -- the same where each weight is known only to be of the format and not below zero, or a NaN: since their sum is finite, each is good
-pub demand-3-of : (k : ℕ) (ws : List Float) → 0 < k → length ws ≤ 256 → T (every (notBelow binary64) ws) → T (finite (total binary64 ws)) → T (lt +0 (total binary64 ws)) → Demand3 k ws
+pub demand-3-of : (k : ℕ) (ws : List Float) → 0 < k → length ws ≤ 256 → T (every (notBelow binary64) ws) → T (finite (total binary64 ws)) → T (lt zero⁺ (total binary64 ws)) → Demand3 k ws
 demand-3-of k ws K few g t p = demand-3 k ws K few (all-good binary64 ws g t) t p
 
 -- document 01's P8: the weights 1, 1, 1 of three labels have the exact total 1 - 2 ^ -54
 pub p8 : sumTo (λ i. inUnits binary64 (probability binary64 3 (fin false 1 (pos 0) ∷ fin false 1 (pos 0) ∷ fin false 1 (pos 0) ∷ []) i)) 3 ≡ 2 ^ 1074 - 2 ^ 1020
-unfolding inUnits add div
+unfolding inUnits add div ofBits
 p8 = refl

@@ -9,12 +9,13 @@ use mir.Facts.{or-yes}
 use borrow.Author.Tests.{lt-ltb, eq-eqb}
 use lib.IntN.{ℤ}
 use lib.Dec.{T, ltb, eqb, ltb→lt, lt→ltb, eqb→eq}
-use lib.Ieee.{Float, nan, inf, fin, up, down, below, level, lt, le}
+use lib.Ieee.{Float, nan, inf, fin, up, down, below, level, lt, le, ofBits}
 use lib.Ieee.Exact.{HasValue}
 use lib.Ieee.Fits.{up-pos, down-pos, and-l, and-r}
 use lib.Ieee.Positive.{positive, first-pos}
 use lib.Ieee.Scale.{finite}
-use Rattle.rounding.specs.Signed.{+0, Signed, plusPart, minusPart, AtMost}
+use Rattle.number.specs.Number.{zero⁺}
+use Rattle.rounding.specs.Signed.{Signed, plusPart, minusPart, AtMost}
 
 -- ---- whole numbers with a sign
 
@@ -81,10 +82,11 @@ plain-tests a b h = omega (arith, tests→at-most false a false b h)
 
 -- ---- `le` of finite numbers
 
-over-left : (x d a e u : ℕ) → x * u ≡ a * d → x * e * u ≡ a * (d * e)
+-- x / d is a / u, and y / e is b / u: each over the common denominator d e
+pub over-left : (x d a e u : ℕ) → x * u ≡ a * d → x * e * u ≡ a * (d * e)
 over-left x d a e u h = omega (arith, ap (λ (z : ℕ). z * e) h)
 
-over-right : (y e b d u : ℕ) → y * u ≡ b * e → y * d * u ≡ b * (d * e)
+pub over-right : (y e b d u : ℕ) → y * u ≡ b * e → y * d * u ≡ b * (d * e)
 over-right y e b d u h = omega (arith, ap (λ (z : ℕ). z * d) h)
 
 -- x is ±a / u and y is ±b / u: x ≤ y says that ±a ≤ ±b
@@ -118,8 +120,8 @@ le→units x y a b u U h k l = omega (arith, le→at-most x y false false a b u 
 -- ---- beside zero
 
 -- +0 ≤ ±m 2 ^ e says that the sign is clear or m is zero
-pub sign-of-nonneg : (s : Bool) (m : ℕ) (e : ℤ) → T (le +0 (fin s m e)) → T s → m ≡ 0
-unfolding le
+pub sign-of-nonneg : (s : Bool) (m : ℕ) (e : ℤ) → T (le zero⁺ (fin s m e)) → T s → m ≡ 0
+unfolding le ofBits
 sign-of-nonneg false m e h t = absurd t
 sign-of-nonneg true m e h t = go (up e) (down e) (up-pos e) (tests→at-most false (0 * down e) true (m * up e * 1) h)
   where
@@ -127,8 +129,8 @@ sign-of-nonneg true m e h t = go (up e) (down e) (up-pos e) (tests→at-most fal
     go u d U h = omega (arith, mul-le-mul-left m U)
 
 -- and the other way round
-pub nonneg-of-sign : (s : Bool) (m : ℕ) (e : ℤ) → (T s → m ≡ 0) → T (le +0 (fin s m e))
-unfolding le
+pub nonneg-of-sign : (s : Bool) (m : ℕ) (e : ℤ) → (T s → m ≡ 0) → T (le zero⁺ (fin s m e))
+unfolding le ofBits
 nonneg-of-sign true m e h = at-most→tests false (0 * down e) true (m * up e * 1) (go (down e) (up e) (h tt))
   where
     go : (d u : ℕ) → m ≡ 0 → 0 * d + m * u * 1 ≤ 0 + 0
@@ -143,8 +145,8 @@ pub zero-times : (m u d : ℕ) → m ≡ 0 → m * u * d ≡ 0
 zero-times m u d e = ap (λ (z : ℕ). z * u * d) e ∙ omega arith
 
 -- a finite x with +0 < x is what the kit calls positive
-pub positive-of-lt : (x : Float) → T (finite x) → T (lt +0 x) → T (positive x)
-unfolding lt
+pub positive-of-lt : (x : Float) → T (finite x) → T (lt zero⁺ x) → T (positive x)
+unfolding lt ofBits
 positive-of-lt nan t h = absurd t
 positive-of-lt (inf s) t h = absurd t
 positive-of-lt (fin true m e) t h = absurd h
@@ -154,8 +156,8 @@ positive-of-lt (fin false m e) t h = lt→ltb 0 m (first-pos m (up e) (go (down 
     go d x h = omega arith
 
 -- what has the sign minus is at most +0
-pub minus-le-zero : (x : Float) → Signed true x → T (le x +0)
-unfolding le
+pub minus-le-zero : (x : Float) → Signed true x → T (le x zero⁺)
+unfolding le ofBits
 minus-le-zero nan h = absurd h
 minus-le-zero (inf true) h = tt
 minus-le-zero (inf false) h = absurd (false≢true h)
@@ -163,8 +165,8 @@ minus-le-zero (fin true m e) h = at-most→tests true (m * up e * 1) false (0 * 
 minus-le-zero (fin false m e) h = absurd (false≢true h)
 
 -- what has the sign plus is at least +0
-pub zero-le-plus : (x : Float) → Signed false x → T (le +0 x)
+pub zero-le-plus : (x : Float) → Signed false x → T (le zero⁺ x)
 zero-le-plus nan h = absurd h
 zero-le-plus (inf true) h = absurd (true≢false h)
-zero-le-plus (inf false) h = unfold le in tt
+zero-le-plus (inf false) h = unfold le ofBits in tt
 zero-le-plus (fin s m e) h = nonneg-of-sign s m e (λ (t : T s). absurd (subst T h t))

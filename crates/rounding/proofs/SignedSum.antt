@@ -2,7 +2,7 @@
 use mathlib.Core.Path.{_≡_, refl, sym, ap, _∙_, subst, subst₂}
 use mathlib.Core.Bool.{Bool, true, false, not}
 use Prim.Native.Nat.{ℕ, _+_, _*_, _^_, _≤_, _<_}
-use native.Mathlib.Nat.{le-of-eq, le-refl, mul-assoc, mul-comm, mul-pos, mul-le-mul-right, le-of-mul-le-mul-right}
+use native.Mathlib.Nat.{le-of-eq, le-refl, mul-assoc, mul-pos, mul-le-mul-right, le-of-mul-le-mul-right}
 use native.Mathlib.Omega.{arith}
 use lib.Pow.{pow-pos}
 use lib.Dec.{T}
@@ -13,7 +13,7 @@ use lib.Ieee.Positive.{through}
 use Rattle.rounding.specs.Bounds.{Within}
 use Rattle.rounding.specs.Signed.{plusPart, minusPart}
 use Rattle.rounding.proofs.Units.{placed}
-use Rattle.rounding.proofs.Signed.{plus-scale, minus-scale, at-most→le}
+use Rattle.rounding.proofs.Signed.{plus-scale, minus-scale, over-left, over-right, at-most→le}
 use Rattle.rounding.proofs.Order.{le-trans-float}
 use Rattle.rounding.proofs.Round.{round-monotone}
 use Rattle.rounding.proofs.Operations.{add-finite, summed}
@@ -26,10 +26,10 @@ pub record InUnits (x : Float) : Type 0 where
   pub is : HasValue x sign size (2 ^ 1074)
   pub kept : HasValue (round binary64 sign size (2 ^ 1074)) sign size (2 ^ 1074)
 
-pub in-units : (x : Float) (a c : ℕ) → T (fits binary64 x) → Within x a c → InUnits x
-in-units nan a c f w = absurd w
-in-units (inf s) a c f w = absurd w
-in-units (fin s m e) a c f w =
+pub as-units : (x : Float) (a c : ℕ) → T (fits binary64 x) → Within x a c → InUnits x
+as-units nan a c f w = absurd w
+as-units (inf s) a c f w = absurd w
+as-units (fin s m e) a c f w =
     let d = placed binary64 s m e f in
     record {
       sign = s;
@@ -80,11 +80,6 @@ sum-at u s t N A B a b C U x y e =
         let x = ap (λ (z : ℕ). z * U) h in
         omega (arith, x)
 
-over-common : (A e a d U : ℕ) → A * U ≡ a * e → A * d * U ≡ a * (e * d)
-over-common A e a d U h =
-    let x = ap (λ (z : ℕ). z * d) h in
-    omega (arith, x)
-
 pub sum-of : (x y : Float) (s t : Bool) (a b : ℕ) → HasValue x s a (2 ^ 1074) → HasValue y t b (2 ^ 1074) → Sum (add binary64 x y) (plusPart s a + plusPart t b) (minusPart s a + minusPart t b)
 sum-of nan y s t a b h k = absurd h
 sum-of (inf r) y s t a b h k = absurd h
@@ -101,8 +96,8 @@ sum-of (fin r m e) (fin u n d) s t a b h k =
       isSum =
           subst₂ (λ (p q : Bool). plusPart (x .sign) (x .size * 2 ^ 1074) + (minusPart p a + minusPart q b) * (down e * down d) ≡ minusPart (x .sign) (x .size * 2 ^ 1074) + (plusPart p a + plusPart q b) * (down e * down d)) (h .0) (k .0)
           (sum-at (x .sign) r u (x .size) (m * up e * down d) (n * up d * down e) a b (down e * down d) (2 ^ 1074)
-          (over-common (m * up e) (down e) a (down d) (2 ^ 1074) (h .1))
-          (over-common (n * up d) (down d) b (down e) (2 ^ 1074) (k .1) ∙ ap (λ (z : ℕ). b * z) (mul-comm (down d) (down e)))
+          (over-left (m * up e) (down e) a (down d) (2 ^ 1074) (h .1))
+          (over-right (n * up d) (down d) b (down e) (2 ^ 1074) (k .1))
           (x .isSum));
     }
 

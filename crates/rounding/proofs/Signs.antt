@@ -1,4 +1,5 @@
 -- Sums, products and quotients of numbers not below zero are not below zero, unless a NaN. A divisor has to be above zero: 1 / -0 is -∞. Assumes nothing.
+-- That weights are not below zero is asked by demand 3 of the filter, a later request; Product uses the cases of infinity.
 use mathlib.Core.Path.{_≡_, refl, ap, _∙_}
 use mathlib.Core.Bool.{Bool, true, false, not, cond}
 use Prim.Native.Nat.{ℕ, _+_, _*_, _<_}
@@ -7,16 +8,17 @@ use native.Mathlib.Omega.{arith}
 use borrow.Author.Tests.{eq-eqb}
 use lib.IntN.{ℤ}
 use lib.Dec.{T, eqb, ltb→lt}
-use lib.Ieee.{Float, nan, inf, fin, Format, unlike, up, down, sum, add, mul, div, le, lt, isNan}
+use lib.Ieee.{Float, nan, inf, fin, Format, unlike, up, down, sum, add, mul, div, le, lt, isNan, ofBits}
 use lib.Ieee.Fits.{up-pos, down-pos}
-use Rattle.rounding.specs.Signed.{+0, plusPart, minusPart}
+use Rattle.number.specs.Number.{zero⁺}
+use Rattle.rounding.specs.Signed.{plusPart, minusPart}
 use Rattle.rounding.proofs.Signed.{sign-of-nonneg, zero-times, positive-of-lt}
 use Rattle.rounding.proofs.Round.{round-nonneg}
 use Rattle.rounding.proofs.Operations.{mul-finite, div-finite, unlike-clear, summed}
 
 -- ---- sums
 
-sum-nonneg : (f : Format) (s : Bool) (a : ℕ) (t : Bool) (b c : ℕ) → 0 < c → (T s → a ≡ 0) → (T t → b ≡ 0) → T (le +0 (sum f s a t b c))
+sum-nonneg : (f : Format) (s : Bool) (a : ℕ) (t : Bool) (b c : ℕ) → 0 < c → (T s → a ≡ 0) → (T t → b ≡ 0) → T (le zero⁺ (sum f s a t b c))
 sum-nonneg f s a t b c C h k =
     let x = summed f s a t b c in
     rw (x .isRound) (round-nonneg f (x .sign) (x .size) c C (go (x .sign) (x .size) (minusPart s a) (minusPart t b) (plusPart s a + plusPart t b) (none s a h) (none t b k) (x .isSum)))
@@ -30,8 +32,8 @@ sum-nonneg f s a t b c C h k =
     go false n p q r a b e t = absurd t
 
 -- x, y ≥ 0 give x + y ≥ 0
-pub add-nonneg : (f : Format) (x y : Float) → T (le +0 x) → T (le +0 y) → T (le +0 (add f x y))
-unfolding add le
+pub add-nonneg : (f : Format) (x y : Float) → T (le zero⁺ x) → T (le zero⁺ y) → T (le zero⁺ (add f x y))
+unfolding add le ofBits
 add-nonneg f nan y h k = absurd h
 add-nonneg f (inf s) nan h k = absurd k
 add-nonneg f (inf true) (inf t) h k = absurd h
@@ -63,8 +65,8 @@ inf-times false n k v = go (eqb n 0) v
     go false v = refl
 
 -- ∞ y = ∞, for y ≥ 0 and unless a NaN
-pub inf-mul : (f : Format) (y : Float) → T (le +0 y) → T (not (isNan (mul f (inf false) y))) → mul f (inf false) y ≡ inf false
-unfolding mul le isNan
+pub inf-mul : (f : Format) (y : Float) → T (le zero⁺ y) → T (not (isNan (mul f (inf false) y))) → mul f (inf false) y ≡ inf false
+unfolding mul le isNan ofBits
 inf-mul f nan k v = absurd v
 inf-mul f (inf true) k v = absurd k
 inf-mul f (inf false) k v = refl
@@ -72,14 +74,14 @@ inf-mul f (fin true n d) k v = inf-times true n (sign-of-nonneg true n d k) v
 inf-mul f (fin false n d) k v = inf-times false n (sign-of-nonneg false n d k) v
 
 -- x ∞ = ∞, for a finite x ≥ 0 and unless a NaN
-pub mul-inf : (f : Format) (s : Bool) (m : ℕ) (e : ℤ) → T (le +0 (fin s m e)) → T (not (isNan (mul f (fin s m e) (inf false)))) → mul f (fin s m e) (inf false) ≡ inf false
+pub mul-inf : (f : Format) (s : Bool) (m : ℕ) (e : ℤ) → T (le zero⁺ (fin s m e)) → T (not (isNan (mul f (fin s m e) (inf false)))) → mul f (fin s m e) (inf false) ≡ inf false
 unfolding mul
 mul-inf f true m e h v = inf-times true m (sign-of-nonneg true m e h) v
 mul-inf f false m e h v = inf-times false m (sign-of-nonneg false m e h) v
 
 -- x, y ≥ 0 give x y ≥ 0, unless a NaN
-pub mul-nonneg : (f : Format) (x y : Float) → T (le +0 x) → T (le +0 y) → T (not (isNan (mul f x y))) → T (le +0 (mul f x y))
-unfolding le
+pub mul-nonneg : (f : Format) (x y : Float) → T (le zero⁺ x) → T (le zero⁺ y) → T (not (isNan (mul f x y))) → T (le zero⁺ (mul f x y))
+unfolding le ofBits
 mul-nonneg f nan y h k v = absurd h
 mul-nonneg f (inf true) y h k v = absurd h
 mul-nonneg f (inf false) y h k v = rw (inf-mul f y k v) h
@@ -93,8 +95,8 @@ mul-nonneg f (fin s m e) (fin t n d) h k v =
 -- ---- quotients
 
 -- x ≥ 0 and y > 0 give x / y ≥ 0, unless a NaN
-pub div-nonneg : (f : Format) (x y : Float) → T (le +0 x) → T (lt +0 y) → T (not (isNan (div f x y))) → T (le +0 (div f x y))
-unfolding le lt div isNan
+pub div-nonneg : (f : Format) (x y : Float) → T (le zero⁺ x) → T (lt zero⁺ y) → T (not (isNan (div f x y))) → T (le zero⁺ (div f x y))
+unfolding le lt div isNan ofBits
 div-nonneg f nan y h k v = absurd h
 div-nonneg f (inf true) y h k v = absurd h
 div-nonneg f (inf false) nan h k v = absurd k

@@ -10,14 +10,14 @@ use borrow.Author.Tests.{le-ltb}
 use lib.Dec.{T}
 use lib.ListN.{length}
 use lib.Pow.{pow-pos}
-use lib.Ieee.{Float, nan, inf, fin, Format, binary64, prec, low, up, down, round, sum, add, le, fits, isNan, ofBits}
+use lib.Ieee.{Float, nan, inf, fin, Format, prec, low, up, down, round, sum, add, le, fits, isNan, ofBits}
 use lib.Ieee.Exact.{HasValue}
 use lib.Ieee.Fits.{down-pos, and-i, and-l, and-r, add-fits}
 use lib.Ieee.Order.{round-mono}
 use lib.Ieee.Scale.{grid, overflow, finite, round-same, round-val, round-under}
+use Rattle.number.specs.Number.{zero⁺}
 use Rattle.rounding.specs.Units.{inUnits, IsUnits}
 use Rattle.rounding.specs.Bounds.{Near}
-use Rattle.rounding.specs.Signed.{+0}
 use Rattle.rounding.specs.Sums.{good, notBelow, every, sumFrom, total, exactTotal}
 use Rattle.rounding.proofs.Signed.{le→units, zero-times}
 use Rattle.rounding.proofs.Operations.{add-finite}
@@ -58,8 +58,9 @@ add-under : (f : Format) (x y : Float) (a b : ℕ) → HasValue x false a (2 ^ l
 add-under f x y a b h k t = round-under f (a + b) (2 ^ low f) (rw (add-units f x y a b h k) at t)
 
 -- +0 + y is y, exactly
-add-zero-value : (f : Format) (y : Float) (b : ℕ) → T (fits f y) → IsUnits f y b → HasValue (add f +0 y) false b (2 ^ low f)
-add-zero-value f y b t h = rw (add-units f +0 y 0 b (refl, zero-mul (2 ^ low f)) h, zero-add b) (round-self f y b t h)
+add-zero-value : (f : Format) (y : Float) (b : ℕ) → T (fits f y) → IsUnits f y b → HasValue (add f zero⁺ y) false b (2 ^ low f)
+unfolding ofBits
+add-zero-value f y b t h = rw (add-units f zero⁺ y 0 b (refl, zero-mul (2 ^ low f)) h, zero-add b) (round-self f y b t h)
 
 -- a sum is no smaller than its first part
 plus-ge : (f : Format) (x : Float) (a c : ℕ) → T (fits f x) → IsUnits f x a → a ≤ c → grid f c (2 ^ low f) < overflow f → a ≤ grid f c (2 ^ low f)
@@ -153,14 +154,15 @@ sum-under f x (y ∷ ys) n s p g h o =
 
 -- ---- from +0 on
 
-none : (f : Format) → Partial f +0 0 0
+none : (f : Format) → Partial f zero⁺ 0 0
+unfolding ofBits
 none f = record { size = 0; value = (refl, zero-mul (2 ^ low f)); holds = unfold fits in tt; near = go (2 ^ prec f) }
   where
     go : (P : ℕ) → Near 0 (P * 0) (P * 0)
     go P = omega arith
 
-first : (f : Format) (x : Float) → T (good f x) → Partial f (add f +0 x) 0 (inUnits f x)
-first f x g = record { size = inUnits f x; value = add-zero-value f x (inUnits f x) (good-fits f x g) (good-units f x g); holds = add-fits f +0 x; near = go (2 ^ prec f) (inUnits f x) }
+first : (f : Format) (x : Float) → T (good f x) → Partial f (add f zero⁺ x) 0 (inUnits f x)
+first f x g = record { size = inUnits f x; value = add-zero-value f x (inUnits f x) (good-fits f x g) (good-units f x g); holds = add-fits f zero⁺ x; near = go (2 ^ prec f) (inUnits f x) }
   where
     go : (P b : ℕ) → Near (0 * b) (P * b) (P * b)
     go P b = omega arith
@@ -177,19 +179,20 @@ near-sum f x n s p =
 
 -- the float sum L of m good numbers, where finite, is good, and P |L - S| ≤ (m - 1) L for the exact sum S: the first addition is exact
 pub sum-error : (f : Format) (xs : List Float) → T (every (good f) xs) → T (finite (total f xs)) → NearSum f (total f xs) (length xs - 1) (exactTotal f xs)
-sum-error f [] g t = near-sum f +0 0 0 (none f)
+sum-error f [] g t = near-sum f zero⁺ 0 0 (none f)
 sum-error f (x ∷ xs) g t =
     rw (less-one (length xs))
-    (near-sum f (total f (x ∷ xs)) (0 + length xs) (exactTotal f (x ∷ xs)) (sum-near f (add f +0 x) xs 0 (inUnits f x) (first f x (and-l (good f x) (every (good f) xs) g)) (and-r (good f x) (every (good f) xs) g) t))
+    (near-sum f (total f (x ∷ xs)) (0 + length xs) (exactTotal f (x ∷ xs)) (sum-near f (add f zero⁺ x) xs 0 (inUnits f x) (first f x (and-l (good f x) (every (good f) xs) g)) (and-r (good f x) (every (good f) xs) g) t))
   where
     less-one : (k : ℕ) → suc k - 1 ≡ 0 + k
     less-one k = omega arith
 
 -- it is finite where 4 m ≤ P and 2 S is below the overflow
 pub sum-finite : (f : Format) (xs : List Float) → T (every (good f) xs) → 4 * length xs ≤ 2 ^ prec f → 2 * exactTotal f xs < overflow f → T (finite (total f xs))
+unfolding ofBits
 sum-finite f [] g h o = tt
 sum-finite f (x ∷ xs) g h o =
-    sum-under f (add f +0 x) xs 0 (inUnits f x) (first f x (and-l (good f x) (every (good f) xs) g)) (and-r (good f x) (every (good f) xs) g) (fewer (length xs) (2 ^ prec f) h) o
+    sum-under f (add f zero⁺ x) xs 0 (inUnits f x) (first f x (and-l (good f x) (every (good f) xs) g)) (and-r (good f x) (every (good f) xs) g) (fewer (length xs) (2 ^ prec f) h) o
   where
     fewer : (k P : ℕ) → 4 * suc k ≤ P → 4 * (0 + k) ≤ P
     fewer k P h = omega arith
@@ -202,7 +205,7 @@ finite-good f nan h t = absurd t
 finite-good f (inf s) h t = absurd t
 finite-good f (fin s m e) h t =
     let x = fin s m e in
-    and-i (fits f x && true) (le +0 x) (and-i (fits f x) true (and-l (fits f x) (le +0 x || false) h) tt) (rw (or-false (le +0 x)) at (and-r (fits f x) (le +0 x || false) h))
+    and-i (fits f x && true) (le zero⁺ x) (and-i (fits f x) true (and-l (fits f x) (le zero⁺ x || false) h) tt) (rw (or-false (le zero⁺ x)) at (and-r (fits f x) (le zero⁺ x || false) h))
 
 all-good-from : (f : Format) (x : Float) (ys : List Float) → T (every (notBelow f) ys) → T (finite (sumFrom f x ys)) → T (every (good f) ys)
 all-good-from f x [] h t = tt
@@ -212,9 +215,4 @@ all-good-from f x (y ∷ ys) h t =
 
 -- x_0, x_1, .. each in the format and not below zero or NaN, and x_0 + x_1 + .. finite: each is good
 pub all-good : (f : Format) (xs : List Float) → T (every (notBelow f) xs) → T (finite (total f xs)) → T (every (good f) xs)
-all-good f xs h t = all-good-from f +0 xs h t
-
--- the program's 0.0, from which its sums start
-pub zero-literal : ofBits binary64 0 ≡ +0
-unfolding ofBits
-zero-literal = refl
+all-good f xs h t = all-good-from f zero⁺ xs h t

@@ -8,13 +8,13 @@ use native.Mathlib.Omega.{arith}
 use lib.IntN.{ℤ, pos, negsuc}
 use lib.Dec.{T, ltb, leb, eqb, ltb→lt, leb→le, eqb→eq}
 use lib.Pow.{pow-add, pow-pos, pow-lt}
-use lib.Ieee.{Float, nan, inf, fin, Format, prec, emax, low, up, down, round, le, lt, fits}
+use lib.Ieee.{Float, nan, inf, fin, Format, prec, emax, low, up, down, round, le, lt, fits, ofBits}
 use lib.Ieee.Exact.{HasValue, round-exact}
 use lib.Ieee.Fits.{up-pos, down-pos, and-i, and-l, and-r}
 use lib.Ieee.Positive.{value-pos}
 use lib.Ieee.Scale.{overflow, finite}
+use Rattle.number.specs.Number.{zero⁺}
 use Rattle.rounding.specs.Units.{inUnits, IsUnits}
-use Rattle.rounding.specs.Signed.{+0}
 use Rattle.rounding.specs.Sums.{good}
 use Rattle.rounding.proofs.Signed.{sign-of-nonneg, nonneg-of-sign, positive-of-lt}
 
@@ -91,9 +91,9 @@ placed-units f m e p = mul-assoc m (up e) (2 ^ low f) ∙ ap (λ (z : ℕ). m * 
 
 -- a good number is a whole number of units
 pub good-units : (f : Format) (x : Float) → T (good f x) → IsUnits f x (inUnits f x)
-good-units f x t = go x (and-l (fits f x) (finite x) (and-l (fits f x && finite x) (le +0 x) t)) (and-r (fits f x) (finite x) (and-l (fits f x && finite x) (le +0 x) t)) (and-r (fits f x && finite x) (le +0 x) t)
+good-units f x t = go x (and-l (fits f x) (finite x) (and-l (fits f x && finite x) (le zero⁺ x) t)) (and-r (fits f x) (finite x) (and-l (fits f x && finite x) (le zero⁺ x) t)) (and-r (fits f x && finite x) (le zero⁺ x) t)
   where
-    go : (x : Float) → T (fits f x) → T (finite x) → T (le +0 x) → IsUnits f x (inUnits f x)
+    go : (x : Float) → T (fits f x) → T (finite x) → T (le zero⁺ x) → IsUnits f x (inUnits f x)
     go nan a b c = absurd b
     go (inf s) a b c = absurd b
     go (fin s m e) a b c =
@@ -103,7 +103,7 @@ good-units f x t = go x (and-l (fits f x) (finite x) (and-l (fits f x && finite 
 
 -- a good number is one of the format
 pub good-fits : (f : Format) (x : Float) → T (good f x) → T (fits f x)
-good-fits f x t = and-l (fits f x) (finite x) (and-l (fits f x && finite x) (le +0 x) t)
+good-fits f x t = and-l (fits f x) (finite x) (and-l (fits f x && finite x) (le zero⁺ x) t)
 
 -- a whole number of units is finite
 pub units-finite : (f : Format) (x : Float) (n : ℕ) → IsUnits f x n → T (finite x)
@@ -113,24 +113,24 @@ units-finite f (fin s m e) n h = tt
 
 -- a number of the format that is a whole number of units is good
 pub units-good : (f : Format) (x : Float) (n : ℕ) → T (fits f x) → IsUnits f x n → T (good f x)
-units-good f x n t h = and-i (fits f x && finite x) (le +0 x) (and-i (fits f x) (finite x) t (units-finite f x n h)) (nonneg x h)
+units-good f x n t h = and-i (fits f x && finite x) (le zero⁺ x) (and-i (fits f x) (finite x) t (units-finite f x n h)) (nonneg x h)
   where
-    nonneg : (x : Float) → IsUnits f x n → T (le +0 x)
+    nonneg : (x : Float) → IsUnits f x n → T (le zero⁺ x)
     nonneg nan h = absurd h
     nonneg (inf s) h = absurd h
     nonneg (fin s m e) h = nonneg-of-sign s m e (h .0)
 
 -- a good x with +0 < x has its sign clear and is x / U with x ≥ 1, in units
-pub positive-units : (f : Format) (x : Float) → T (good f x) → T (lt +0 x) → HasValue x false (inUnits f x) (2 ^ low f) × (0 < inUnits f x)
+pub positive-units : (f : Format) (x : Float) → T (good f x) → T (lt zero⁺ x) → HasValue x false (inUnits f x) (2 ^ low f) × (0 < inUnits f x)
 positive-units f x g h =
     let v = clear x h (good-units f x g) in
     (v, value-pos x (inUnits f x) (2 ^ low f) (positive-of-lt x (units-finite f x (inUnits f x) (good-units f x g)) h) (pow-pos (low f)) v)
   where
-    clear : (x : Float) → T (lt +0 x) → IsUnits f x (inUnits f x) → HasValue x false (inUnits f x) (2 ^ low f)
+    clear : (x : Float) → T (lt zero⁺ x) → IsUnits f x (inUnits f x) → HasValue x false (inUnits f x) (2 ^ low f)
     clear nan h u = u
     clear (inf s) h u = u
     clear (fin false m e) h u = (refl, u .1)
-    clear (fin true m e) h u = absurd (unfold lt in h)
+    clear (fin true m e) h u = absurd (unfold lt ofBits in h)
 
 -- a number of the format is rounded to itself: round (n / U) = n / U
 pub round-self : (f : Format) (x : Float) (n : ℕ) → T (fits f x) → IsUnits f x n → HasValue (round f false n (2 ^ low f)) false n (2 ^ low f)

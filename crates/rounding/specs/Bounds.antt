@@ -1,4 +1,5 @@
--- Bounds on the size of a number by a fraction a / c: a NaN and an infinity have none. And a bound on how far two whole numbers are apart.
+-- Bounds on the size of a number by a fraction a / c, for a c above zero: a NaN and an infinity have none. And a bound on how far two whole
+-- numbers are apart.
 use mathlib.Core.Path.{_≡_}
 use mathlib.Core.Bool.{Bool}
 use Prim.Native.Nat.{ℕ, _+_, _*_, _≤_}

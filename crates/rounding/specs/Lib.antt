@@ -3,7 +3,7 @@
 pub mod Units
 -- bounds on a number's size, and on how far two whole numbers are apart
 pub mod Bounds
--- positive zero, signs, and the order of ±a and ±b
+-- signs, and the order of ±a and ±b
 pub mod Signed
 -- good weights, their float sum and their exact sum
 pub mod Sums

@@ -1,13 +1,8 @@
--- Signs: positive zero, the sign of a number, and the order of ±a and ±b for whole numbers a and b.
+-- Signs: the sign of a number, and the order of ±a and ±b for whole numbers a and b.
 use mathlib.Core.Path.{_≡_}
 use mathlib.Core.Bool.{Bool, true, false}
 use Prim.Native.Nat.{ℕ, _+_, _≤_}
-use lib.IntN.{pos}
 use lib.Ieee.{Float, nan, inf, fin}
-
--- positive zero
-abbrev pub +0 : Float
-+0 = fin false 0 (pos 0)
 
 -- x is no NaN and its sign is s, a zero's and an infinity's too
 abbrev pub Signed : Bool → Float → Type 0

@@ -5,16 +5,16 @@ use mathlib.Core.List.{List, [], _∷_}
 use Prim.Native.Nat.{ℕ, _+_}
 use lib.Ieee.{Float, Format, add, le, fits, isNan}
 use lib.Ieee.Scale.{finite}
+use Rattle.number.specs.Number.{zero⁺}
 use Rattle.rounding.specs.Units.{inUnits}
-use Rattle.rounding.specs.Signed.{+0}
 
 -- a number of the format that is finite and not below zero
 abbrev pub good : Format → Float → Bool
-good f x = fits f x && finite x && le +0 x
+good f x = fits f x && finite x && le zero⁺ x
 
 -- one of the format that is not below zero, an infinity included, or a NaN
 abbrev pub notBelow : Format → Float → Bool
-notBelow f x = fits f x && (le +0 x || isNan x)
+notBelow f x = fits f x && (le zero⁺ x || isNan x)
 
 -- the test holds of every number of the list
 abbrev pub every : (Float → Bool) → List Float → Bool
@@ -28,7 +28,7 @@ sumFrom f a (x ∷ xs) = sumFrom f (add f a x) xs
 
 -- +0 + x_0 + x_1 + ..
 abbrev pub total : Format → List Float → Float
-total f xs = sumFrom f +0 xs
+total f xs = sumFrom f zero⁺ xs
 
 -- the exact sum, in units
 abbrev pub exactTotal : Format → List Float → ℕ

@@ -5,7 +5,7 @@ use Prim.Native.Nat.{ℕ, _*_, _/_, _^_}
 use lib.Dec.{T}
 use lib.Ieee.{Float, nan, inf, fin, Format, low, up, down}
 
--- the size in units; every finite number of the format is a whole number of them
+-- the size in units; every finite number of the format is a whole number of them. A NaN and the infinities count 0.
 unfoldable pub inUnits : Format → Float → ℕ
 inUnits f nan = 0
 inUnits f (inf s) = 0

@@ -25,7 +25,7 @@ unfolding expOf
 returns-2 c = simp (le-leb _ _ (c .before .if2 .taken)) (c .exp-large .ensures)
 
 exp-reduce-requires : tie.Need-exp-reduce-requires
-exp-reduce-requires c κs = (record { word = refl; sign = refl }, below-large (c .before .before .args .x) _ _ (subst T (sym (c .before .before .good .0 .1)) tt) (no-nan (c .before .before .args .x) (c .before .if1 .left)) (record { word = refl; sign = refl }) (c .if2 .left))
+exp-reduce-requires c κs = let r = below-large (c .before .before .args .x) _ _ (subst T (sym (c .before .before .good .0 .1)) tt) (no-nan (c .before .before .args .x) (c .before .if1 .left)) (record { word = refl; sign = refl }) (c .if2 .left) in (record { word = refl; sign = refl }, r .0, r .1)
 
 returns-3 : tie.Need-returns-3
 unfolding expOf

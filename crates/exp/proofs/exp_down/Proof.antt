@@ -6,7 +6,8 @@ use borrow.Author.Needs.{needs}
 use lib.IntN.{pos}
 use lib.Ieee.{Float, binary64, ofInt}
 use Rattle.exp.specs.Exp.{signed, expWhole}
-use Rattle.exp.proofs.Reduced.{farPart, Made, far-sized, far-few, far-ready, far-is, is-number, scale-down, scale-far-down, pattern-number}
+use Rattle.rounding.proofs.Pattern.{number-pattern}
+use Rattle.exp.proofs.Reduced.{farPart, Made, far-sized, far-few, far-ready, far-is, scale-down, scale-far-down}
 use Rattle.exp.proofs.exp_down.Statement.{statement}
 use Rattle.exp.proofs.exp_down.Tie as tie
 
@@ -36,7 +37,7 @@ exp-part-requires c κs = search needs
 
 float-to-bits-b : tie.Need-float-to-bits-b
 unfolding signed expWhole
-float-to-bits-b c = is-number (far-ready (c .before .before .before .pre) (made (c .before .before .before .args .x) (c .before .before .whole-part .result) (c .before .of-whole .result) (c .exp-part .result) (c .before .before .whole-part .ensures) (c .before .of-whole .ensures) (c .exp-part .ensures)))
+float-to-bits-b c = far-ready (c .before .before .before .pre) (made (c .before .before .before .args .x) (c .before .before .whole-part .result) (c .before .of-whole .result) (c .exp-part .result) (c .before .before .whole-part .ensures) (c .before .of-whole .ensures) (c .exp-part .ensures)) .number
 
 mul-result : tie.Need-mul-result
 unfolding signed expWhole
@@ -48,7 +49,7 @@ sub-result c = let m = far-ready (c .before .before .before .before .pre) (made 
 
 float-from-bits-result : tie.Need-float-from-bits-result
 unfolding signed expWhole
-float-from-bits-result c = let m = far-ready (c .before .before .before .before .pre) (made (c .before .before .before .before .args .x) (c .before .before .before .whole-part .result) (c .before .before .of-whole .result) (c .before .exp-part .result) (c .before .before .before .whole-part .ensures) (c .before .before .of-whole .ensures) (c .before .exp-part .ensures)) .exponent in pattern-number _ (omega arith)
+float-from-bits-result c = let m = far-ready (c .before .before .before .before .pre) (made (c .before .before .before .before .args .x) (c .before .before .before .whole-part .result) (c .before .before .of-whole .result) (c .before .exp-part .result) (c .before .before .before .whole-part .ensures) (c .before .before .of-whole .ensures) (c .before .exp-part .ensures)) .exponent in number-pattern _ (omega arith)
 
 returns : tie.Need-returns
 unfolding signed expWhole
@@ -67,7 +68,7 @@ sub-result-3 c = let h = far-few true (c .before .before .before .before .args .
 
 float-from-bits-result-2 : tie.Need-float-from-bits-result-2
 unfolding signed expWhole
-float-from-bits-result-2 c = let m = far-ready (c .before .before .before .before .pre) (made (c .before .before .before .before .args .x) (c .before .before .before .whole-part .result) (c .before .before .of-whole .result) (c .before .exp-part .result) (c .before .before .before .whole-part .ensures) (c .before .before .of-whole .ensures) (c .before .exp-part .ensures)) .exponent in pattern-number _ (omega arith)
+float-from-bits-result-2 c = let m = far-ready (c .before .before .before .before .pre) (made (c .before .before .before .before .args .x) (c .before .before .before .whole-part .result) (c .before .before .of-whole .result) (c .before .exp-part .result) (c .before .before .before .whole-part .ensures) (c .before .before .of-whole .ensures) (c .before .exp-part .ensures)) .exponent in number-pattern _ (omega arith)
 
 returns-2 : tie.Need-returns-2
 unfolding signed expWhole

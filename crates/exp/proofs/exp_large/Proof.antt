@@ -23,7 +23,7 @@ unfolding expLarge
 returns-4 c = simp (lt-leb _ _ (c .before .before .if1 .left), c .before .if3 .left, c .if4 .taken)
 
 exp-reduce-requires : tie.Need-exp-reduce-requires
-exp-reduce-requires c κs = (c .before .before .before .pre .0, within-range (c .before .before .before .args .x) (c .before .before .before .args .hx) (c .before .before .before .args .s) (c .before .before .before .pre .1) (c .before .before .before .pre .0) (c .before .before .if1 .left) (c .before .if3 .left) (c .if4 .left))
+exp-reduce-requires c κs = (c .before .before .before .pre .0, within-range (c .before .before .before .args .x) (c .before .before .before .args .hx) (c .before .before .before .args .s) (c .before .before .before .pre .1) (c .before .before .before .pre .0) (c .before .before .if1 .left) (c .before .if3 .left) (c .if4 .left), c .before .if3 .left)
 
 returns-5 : tie.Need-returns-5
 unfolding expLarge

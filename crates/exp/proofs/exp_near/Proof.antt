@@ -7,7 +7,8 @@ use lib.Ieee.{Float}
 use Rattle.number.specs.Number.{_⊖_}
 use Rattle.number.specs.Table.{_!_}
 use Rattle.exp.specs.Exp.{ln2Hi, ln2Lo, expPart, expNear, expScale}
-use Rattle.exp.proofs.Reduced.{Ready, near-ready, near-scale, is-number, pattern-number}
+use Rattle.rounding.proofs.Pattern.{number-pattern}
+use Rattle.exp.proofs.Reduced.{Ready, near-ready, near-scale}
 use Rattle.exp.proofs.exp_near.Statement.{statement}
 use Rattle.exp.proofs.exp_near.Tie as tie
 
@@ -30,7 +31,7 @@ exp-part-requires : tie.Need-exp-part-requires
 exp-part-requires c κs = search needs
 
 float-to-bits-result : tie.Need-float-to-bits-result
-float-to-bits-result c = is-number (made (c .before .args .x) (c .before .args .s) (c .exp-part .result) (near-ready (c .before .args .x) (c .before .args .hx) (c .before .args .s) (subst T (sym (c .before .good .0 .1)) tt) (c .before .pre .0) (c .before .pre .1) (c .before .pre .2) .0) (c .exp-part .ensures))
+float-to-bits-result c = made (c .before .args .x) (c .before .args .s) (c .exp-part .result) (near-ready (c .before .args .x) (c .before .args .hx) (c .before .args .s) (subst T (sym (c .before .good .0 .1)) tt) (c .before .pre .0) (c .before .pre .1) (c .before .pre .2) .0) (c .exp-part .ensures) .number
 
 add-result : tie.Need-add-result
 add-result c = let m = made (c .before .args .x) (c .before .args .s) (c .exp-part .result) (near-ready (c .before .args .x) (c .before .args .hx) (c .before .args .s) (subst T (sym (c .before .good .0 .1)) tt) (c .before .pre .0) (c .before .pre .1) (c .before .pre .2) .0) (c .exp-part .ensures) .exponent in omega arith
@@ -42,7 +43,7 @@ sub-result : tie.Need-sub-result
 sub-result c = let h = near-ready (c .before .args .x) (c .before .args .hx) (c .before .args .s) (subst T (sym (c .before .good .0 .1)) tt) (c .before .pre .0) (c .before .pre .1) (c .before .pre .2) .1 in let m = made (c .before .args .x) (c .before .args .s) (c .exp-part .result) (near-ready (c .before .args .x) (c .before .args .hx) (c .before .args .s) (subst T (sym (c .before .good .0 .1)) tt) (c .before .pre .0) (c .before .pre .1) (c .before .pre .2) .0) (c .exp-part .ensures) .exponent in omega arith
 
 float-from-bits-result : tie.Need-float-from-bits-result
-float-from-bits-result c = let m = made (c .before .args .x) (c .before .args .s) (c .exp-part .result) (near-ready (c .before .args .x) (c .before .args .hx) (c .before .args .s) (subst T (sym (c .before .good .0 .1)) tt) (c .before .pre .0) (c .before .pre .1) (c .before .pre .2) .0) (c .exp-part .ensures) .exponent in pattern-number _ (omega arith)
+float-from-bits-result c = let m = made (c .before .args .x) (c .before .args .s) (c .exp-part .result) (near-ready (c .before .args .x) (c .before .args .hx) (c .before .args .s) (subst T (sym (c .before .good .0 .1)) tt) (c .before .pre .0) (c .before .pre .1) (c .before .pre .2) .0) (c .exp-part .ensures) .exponent in number-pattern _ (omega arith)
 
 returns : tie.Need-returns
 unfolding expNear

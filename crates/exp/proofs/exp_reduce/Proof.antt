@@ -15,7 +15,7 @@ unfolding expReduce
 returns c = simp (lt-ltb _ _ (c .before .before .if1 .taken), lt-ltb _ _ (c .before .if2 .taken)) (c .exp-near .ensures)
 
 exp-up-requires : tie.Need-exp-up-requires
-exp-up-requires c κs = above-zero (c .before .before .before .args .x) (c .before .before .before .args .hx) (c .before .before .before .args .s) (subst T (sym (c .before .before .before .good .0 .1)) tt) (c .before .before .before .pre .0) (c .before .before .before .pre .1) (c .if3 .taken)
+exp-up-requires c κs = (above-zero (c .before .before .before .args .x) (c .before .before .before .args .hx) (c .before .before .before .args .s) (subst T (sym (c .before .before .before .good .0 .1)) tt) (c .before .before .before .pre .0) (c .before .before .before .pre .1) (c .if3 .taken), c .before .before .before .pre .2)
 
 returns-2 : tie.Need-returns-2
 unfolding expReduce

@@ -6,7 +6,9 @@ use borrow.Author.Needs.{needs}
 use lib.IntN.{pos}
 use lib.Ieee.{Float, binary64, ofInt}
 use Rattle.exp.specs.Exp.{signed, expWhole}
-use Rattle.exp.proofs.Reduced.{farPart, Made, far-sized, far-few, far-ready, far-is, is-number, scale-up}
+use Rattle.rounding.proofs.Pattern.{number-pattern}
+use Rattle.exp.proofs.Reduced.{farPart, Made, far-sized, far-few, far-ready, far-is, scale-up}
+use Rattle.exp.proofs.Over.{made-sum}
 use Rattle.exp.proofs.exp_up.Statement.{statement}
 use Rattle.exp.proofs.exp_up.Tie as tie
 
@@ -19,11 +21,11 @@ array-read-whole-part c = search needs
 
 whole-part-requires : tie.Need-whole-part-requires
 unfolding signed
-whole-part-requires c κs = let w = far-sized false (c .args .x) (c .pre) .few in (w .from, w .within)
+whole-part-requires c κs = let w = far-sized false (c .args .x) (c .pre .0) .few in (w .from, w .within)
 
 of-whole-requires : tie.Need-of-whole-requires
 unfolding signed expWhole
-of-whole-requires c κs = let h = far-few false (c .before .args .x) (c .whole-part .result) (c .before .pre) (c .whole-part .ensures) in omega arith
+of-whole-requires c κs = let h = far-few false (c .before .args .x) (c .whole-part .result) (c .before .pre .0) (c .whole-part .ensures) in omega arith
 
 array-read-exp-part : tie.Need-array-read-exp-part
 array-read-exp-part c = search needs
@@ -34,24 +36,25 @@ array-read-exp-part-2 c = search needs
 exp-part-requires : tie.Need-exp-part-requires
 exp-part-requires c κs = search needs
 
-float-to-bits-of-pattern : tie.Need-float-to-bits-of-pattern
+float-to-bits-result : tie.Need-float-to-bits-result
 unfolding signed expWhole
-float-to-bits-of-pattern c = is-number (far-ready (c .before .before .before .pre) (made (c .before .before .before .args .x) (c .before .before .whole-part .result) (c .before .of-whole .result) (c .exp-part .result) (c .before .before .whole-part .ensures) (c .before .of-whole .ensures) (c .exp-part .ensures)))
+float-to-bits-result c = far-ready (c .before .before .before .pre .0) (made (c .before .before .before .args .x) (c .before .before .whole-part .result) (c .before .of-whole .result) (c .exp-part .result) (c .before .before .whole-part .ensures) (c .before .of-whole .ensures) (c .exp-part .ensures)) .number
 
-mul-of-pattern : tie.Need-mul-of-pattern
+mul-result : tie.Need-mul-result
 unfolding signed expWhole
-mul-of-pattern c = let h = far-few false (c .before .before .before .args .x) (c .before .before .whole-part .result) (c .before .before .before .pre) (c .before .before .whole-part .ensures) in omega arith
+mul-result c = let h = far-few false (c .before .before .before .args .x) (c .before .before .whole-part .result) (c .before .before .before .pre .0) (c .before .before .whole-part .ensures) in omega arith
 
-add-of-pattern : tie.Need-add-of-pattern
+add-result : tie.Need-add-result
 unfolding signed expWhole
-add-of-pattern c = let h = far-few false (c .before .before .before .args .x) (c .before .before .whole-part .result) (c .before .before .before .pre) (c .before .before .whole-part .ensures) in let m = far-ready (c .before .before .before .pre) (made (c .before .before .before .args .x) (c .before .before .whole-part .result) (c .before .of-whole .result) (c .exp-part .result) (c .before .before .whole-part .ensures) (c .before .of-whole .ensures) (c .exp-part .ensures)) .exponent in omega arith
+add-result c = let h = far-few false (c .before .before .before .args .x) (c .before .before .whole-part .result) (c .before .before .before .pre .0) (c .before .before .whole-part .ensures) in let m = far-ready (c .before .before .before .pre .0) (made (c .before .before .before .args .x) (c .before .before .whole-part .result) (c .before .of-whole .result) (c .exp-part .result) (c .before .before .whole-part .ensures) (c .before .of-whole .ensures) (c .exp-part .ensures)) .exponent in omega arith
 
-of-pattern-requires : tie.Need-of-pattern-requires
-of-pattern-requires c κs = search needs
+float-from-bits-result : tie.Need-float-from-bits-result
+unfolding signed expWhole
+float-from-bits-result c = number-pattern _ (made-sum (c .before .before .before .pre .0) (c .before .before .before .pre .1) (made (c .before .before .before .args .x) (c .before .before .whole-part .result) (c .before .of-whole .result) (c .exp-part .result) (c .before .before .whole-part .ensures) (c .before .of-whole .ensures) (c .exp-part .ensures)))
 
 returns : tie.Need-returns
 unfolding signed expWhole
-returns c = c .of-pattern .ensures ∙ scale-up (c .before .exp-part .result) (c .before .before .before .whole-part .result) ∙ far-is (made (c .before .before .before .before .args .x) (c .before .before .before .whole-part .result) (c .before .before .of-whole .result) (c .before .exp-part .result) (c .before .before .before .whole-part .ensures) (c .before .before .of-whole .ensures) (c .before .exp-part .ensures))
+returns c = scale-up (c .exp-part .result) (c .before .before .whole-part .result) ∙ far-is (made (c .before .before .before .args .x) (c .before .before .whole-part .result) (c .before .of-whole .result) (c .exp-part .result) (c .before .before .whole-part .ensures) (c .before .of-whole .ensures) (c .exp-part .ensures))
 
 pub exp-up-spec : {M : Type 1} → statement M
 exp-up-spec =
@@ -63,8 +66,8 @@ exp-up-spec =
     array-read-exp-part
     array-read-exp-part-2
     exp-part-requires
-    float-to-bits-of-pattern
-    mul-of-pattern
-    add-of-pattern
-    of-pattern-requires
+    float-to-bits-result
+    mul-result
+    add-result
+    float-from-bits-result
     returns)

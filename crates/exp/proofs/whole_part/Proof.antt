@@ -1,15 +1,14 @@
-use mathlib.Core.Bool.{Bool, not}
 use mathlib.Core.Path.{sym, subst}
 use native.Mathlib.Omega.{arith}
 use borrow.Author.Needs.{needs}
 use lib.Dec.{T}
+use Rattle.rounding.proofs.Intervals.{within-number}
 use Rattle.exp.proofs.Cut.{cut}
-use Rattle.exp.proofs.Middle.{number-within}
 use Rattle.exp.proofs.whole_part.Statement.{statement}
 use Rattle.exp.proofs.whole_part.Tie as tie
 
 float-to-bits-b : tie.Need-float-to-bits-b
-float-to-bits-b c = subst (λ (b : Bool). T (not b)) (sym (number-within (c .args .v) 2239 2 (c .pre .1))) tt
+float-to-bits-b c = within-number (c .args .v) 2239 2 (c .pre .1)
 
 add-result : tie.Need-add-result
 add-result c = search needs

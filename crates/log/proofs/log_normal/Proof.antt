@@ -1,12 +1,7 @@
-use mathlib.Core.Bool.{Bool, not}
-use mathlib.Core.Path.{sym, subst, _∙_}
-use Prim.Native.Nat.{ℕ, _+_, _-_, _*_, _%_, _^_, _≤_}
 use native.Mathlib.Omega.{arith}
 use borrow.Author.Needs.{needs}
 use borrow.Author.Tests.{lt-ltb, le-ltb}
-use lib.Dec.{T}
-use lib.Ieee.{binary64}
-use lib.Ieee.Bits.{nanBits-above}
+use Rattle.rounding.proofs.Pattern.{number-pattern}
 use Rattle.log.specs.Log.{logNormal}
 use Rattle.log.proofs.log_normal.Statement.{statement}
 use Rattle.log.proofs.log_normal.Tie as tie
@@ -23,12 +18,8 @@ mul-f c = search needs
 add-f : tie.Need-add-f
 add-f c = search needs
 
--- the exponent's field is at most 1023: no NaN's pattern
-no-nan-pattern : (b j : ℕ) → ((0x3ff - j) * 2 ^ 52 + b % 2 ^ 52) % 2 ^ 63 ≤ 0x7ff0_0000_0000_0000
-no-nan-pattern b j = omega arith
-
 float-from-bits-f : tie.Need-float-from-bits-f
-float-from-bits-f c = subst (λ (b : Bool). T (not b)) (sym (nanBits-above binary64 _ ∙ le-ltb _ _ (no-nan-pattern (c .args .b) _))) tt
+float-from-bits-f c = number-pattern _ (omega arith)
 
 add-a : tie.Need-add-a
 add-a c = search needs

@@ -1,7 +1,7 @@
 use Prim.Native.Nat.{_-_, _*_, _^_}
 use mathlib.Core.Logic.{⊎-elim}
 use native.Mathlib.Omega.{arith}
-use Rattle.root.proofs.Near.{near-next, near-same, above-zero}
+use Rattle.root.proofs.WholeRoot.{near-next, near-same, above-zero}
 use Rattle.root.proofs.Digits.{Step, small, one-digit, zero-digit, first, last}
 use Rattle.root.proofs.by_digits.Statement.{statement}
 use Rattle.root.proofs.by_digits.Tie as tie

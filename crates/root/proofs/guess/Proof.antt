@@ -1,6 +1,6 @@
 use Prim.Native.Nat.{_-_, _/_}
 use native.Mathlib.Omega.{arith}
-use Rattle.root.proofs.Cases.{number-pattern}
+use Rattle.rounding.proofs.Pattern.{number-pattern}
 use borrow.Author.Needs.{needs}
 use Rattle.root.proofs.guess.Statement.{statement}
 use Rattle.root.proofs.guess.Tie as tie

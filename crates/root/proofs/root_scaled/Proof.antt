@@ -1,7 +1,7 @@
 use mathlib.Core.Path.{sym, ap, _∙_}
 use Prim.Native.Nat.{ℕ, _+_, _-_, _*_, _/_, _%_, _^_, _≤_, _<_}
 use native.Mathlib.Omega.{arith}
-use Rattle.root.proofs.Near.{is-nearestRoot}
+use Rattle.root.proofs.WholeRoot.{is-wholeRoot}
 use Rattle.root.proofs.Scaled.{m-from, m-most, m-kept, pattern-of}
 use borrow.Author.Needs.{needs}
 use Rattle.root.proofs.root_scaled.Statement.{statement}
@@ -51,7 +51,7 @@ returns c =
     let ex = c .before .before .args .ex in
     let p = c .before .before .pre in
     ap (λ (q : ℕ). (ex / 2 - 1) * 2 ^ 52 + q)
-    (is-nearestRoot (sig * 2 ^ (ex % 2)) (c .settled .result) (some _ (m-from sig ex (p .0) (p .1) (p .2))) (few _ (m-most sig ex (p .0) (p .1) (p .2)))
+    (is-wholeRoot (sig * 2 ^ (ex % 2)) (c .settled .result) (some _ (m-from sig ex (p .0) (p .1) (p .2))) (few _ (m-most sig ex (p .0) (p .1) (p .2)))
     (rw (m-kept sig ex (p .0) (p .1) (p .2)) at (c .settled .ensures .0)))
     ∙ sym (pattern-of sig ex (p .0) (p .1) (p .2))
 

@@ -2,8 +2,8 @@ use mathlib.Core.Path.{ap}
 use borrow.Author.Needs.{needs}
 use borrow.Author.Tests.{le-leb}
 use lib.Ieee.{binary64, ofInt}
-use Rattle.number.proofs.of_whole.Statement.{statement}
-use Rattle.number.proofs.of_whole.Tie as tie
+use Rattle.exp.proofs.of_whole.Statement.{statement}
+use Rattle.exp.proofs.of_whole.Tie as tie
 
 cast-result : tie.Need-cast-result
 cast-result c = search needs

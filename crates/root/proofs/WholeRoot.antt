@@ -1,4 +1,4 @@
--- `nearestRoot` of m * 2 ^ 52 is nearest to its root (`nearestRoot-near`), and no other whole number is (`is-nearestRoot`). Nothing here is about
+-- `wholeRoot` of m * 2 ^ 52 is nearest to its root (`wholeRoot-near`), and no other whole number is (`is-wholeRoot`). Nothing here is about
 -- floats. Assumes nothing.
 use mathlib.Core.Path.{_≡_, sym}
 use mathlib.Core.Logic.{inl, inr}
@@ -7,8 +7,8 @@ use native.Mathlib.Nat.{le-trans, le-of-eq, mul-comm, mul-add, add-mul, add-asso
 use native.Mathlib.Omega.{arith}
 use borrow.Author.Tests.{le-leb, lt-leb}
 use Rattle.rounding.proofs.Choose.{le-or-lt}
-use Rattle.root.specs.Root.{digit, cut, rounded, nearestRoot}
-use Rattle.root.specs.Steps.{Near}
+use Rattle.root.specs.Root.{digit, cut, rounded, wholeRoot}
+use Rattle.root.specs.Steps.{RoundsTo}
 
 -- ---- squares
 
@@ -23,13 +23,13 @@ even-square q = simp (mul-comm, mul-left-comm) (omega arith)
 
 -- ---- a q whose square is at most n, by what n is above it
 
-pub near-next : (n q rest : ℕ) → q * q + rest ≡ n → rest ≤ 3 * q + 2 → q < rest → Near n (q + 1)
+pub near-next : (n q rest : ℕ) → q * q + rest ≡ n → rest ≤ 3 * q + 2 → q < rest → RoundsTo n (q + 1)
 near-next n q rest e l k = go (q * q) ((q + 1) * (q + 1)) e (next-square q)
   where
     go : (S S' : ℕ) → S + rest ≡ n → S' ≡ S + (2 * q + 1) → (S' < n + (q + 1)) × (n ≤ S' + (q + 1))
     go S S' e f = omega arith
 
-pub near-same : (n q rest : ℕ) → 0 < n → q * q + rest ≡ n → rest ≤ q → Near n q
+pub near-same : (n q rest : ℕ) → 0 < n → q * q + rest ≡ n → rest ≤ q → RoundsTo n q
 near-same n zero rest p e l = absurd (no e)
   where
     no : 0 * 0 + rest ≡ n → ⊥
@@ -39,7 +39,7 @@ near-same n (suc q) rest p e l = go (suc q * suc q) e
     go : (S : ℕ) → S + rest ≡ n → (S < n + suc q) × (n ≤ S + suc q)
     go S e = omega arith
 
--- ---- `nearestRoot` is nearest
+-- ---- `wholeRoot` is nearest
 
 abbrev Cut : ℕ → ℕ → Type 0
 Cut n q = (q * q ≤ n) × (n < (q + 1) * (q + 1))
@@ -76,7 +76,7 @@ unfolding cut
 cut-is zero n h = omega arith
 cut-is (suc k) n h = digit-cut n (cut k (n / 4)) (cut-is k (n / 4) (quarter k n h))
 
-rounded-near : (n q : ℕ) → 0 < n → Cut n q → Near n (rounded n q)
+rounded-near : (n q : ℕ) → 0 < n → Cut n q → RoundsTo n (rounded n q)
 rounded-near n q p h = elim (le-or-lt n (q * q + q)) [
   | inl k ↦ rw (le-leb _ _ k) (near-same n q (n - q * q) p (whole (q * q) (h .0)) (at-most (q * q) k))
   | inr k ↦ rw (lt-leb _ _ k) (near-next n q (n - q * q) (whole (q * q) (h .0)) (below (q * q) ((q + 1) * (q + 1)) (h .1) (next-square q)) (more (q * q) k))
@@ -98,27 +98,27 @@ rounded-near n q p h = elim (le-or-lt n (q * q + q)) [
 pub above-zero : (m : ℕ) → 0 < m → 0 < m * 2 ^ 52
 above-zero m h = omega arith
 
-pub nearestRoot-near : (m : ℕ) → 0 < m → m < 2 ^ 54 → Near (m * 2 ^ 52) (nearestRoot (m * 2 ^ 52))
-unfolding nearestRoot
-nearestRoot-near m p h = rounded-near (m * 2 ^ 52) (cut 53 (m * 2 ^ 52)) (above-zero m p) (cut-is 53 (m * 2 ^ 52) (in-106 m h))
+pub wholeRoot-near : (m : ℕ) → 0 < m → m < 2 ^ 54 → RoundsTo (m * 2 ^ 52) (wholeRoot (m * 2 ^ 52))
+unfolding wholeRoot
+wholeRoot-near m p h = rounded-near (m * 2 ^ 52) (cut 53 (m * 2 ^ 52)) (above-zero m p) (cut-is 53 (m * 2 ^ 52) (in-106 m h))
   where
     in-106 : (m : ℕ) → m < 2 ^ 54 → m * 2 ^ 52 < 4 ^ 53
     in-106 m h = omega arith
 
 -- ---- no other is
 
-not-below : (n r s : ℕ) → Near n r → Near n s → r < s → ⊥
+not-below : (n r s : ℕ) → RoundsTo n r → RoundsTo n s → r < s → ⊥
 not-below n r s h k l =
     go (r * r) (s * r) (s * s) (h .1) (k .0) (le-trans (le-of-eq (sym (suc-mul r r))) (mul-le-mul-right r l)) (le-trans (le-of-eq (sym (mul-suc s r))) (mul-le-mul-left s l))
   where
     go : (R P S : ℕ) → n ≤ R + r → S < n + s → R + r ≤ P → P + s ≤ S → ⊥
     go R P S a b c d = omega arith
 
-near-unique : (n r s : ℕ) → Near n r → Near n s → r ≡ s
+near-unique : (n r s : ℕ) → RoundsTo n r → RoundsTo n s → r ≡ s
 near-unique n r s h k = go (not-below n r s h k) (not-below n s r k h)
   where
     go : (r < s → ⊥) → (s < r → ⊥) → r ≡ s
     go a b = omega arith
 
-pub is-nearestRoot : (m r : ℕ) → 0 < m → m < 2 ^ 54 → Near (m * 2 ^ 52) r → r ≡ nearestRoot (m * 2 ^ 52)
-is-nearestRoot m r p h k = near-unique (m * 2 ^ 52) r (nearestRoot (m * 2 ^ 52)) k (nearestRoot-near m p h)
+pub is-wholeRoot : (m r : ℕ) → 0 < m → m < 2 ^ 54 → RoundsTo (m * 2 ^ 52) r → r ≡ wholeRoot (m * 2 ^ 52)
+is-wholeRoot m r p h k = near-unique (m * 2 ^ 52) r (wholeRoot (m * 2 ^ 52)) k (wholeRoot-near m p h)
