@@ -1,26 +1,23 @@
--- `vectors::main` is safe and ends. The measure is what is left of the blocks that it may read.
+-- `vectors::main` is safe and ends. The measure is what is left of the lines that it may read.
 use Prim.Native.Nat.{_≤_, _-_}
 use borrow.Author.Needs.{needs}
 use Rattle.vectors.proofs.main.Statement.{statement}
 use Rattle.vectors.proofs.main.Tie as tie
 
 abbrev Inv-loop : tie.InvT-loop
-Inv-loop blocks₀ blocks = blocks ≤ 0x100_0000_0000
+Inv-loop lines₀ lines = lines ≤ 0x100_0000_0000
 
 abbrev μ-loop : tie.MeasureT-loop
-μ-loop blocks₀ blocks = 0x100_0000_0000 - blocks
+μ-loop lines₀ lines = 0x100_0000_0000 - lines
 
 loop-holds : tie.Need-loop-holds Inv-loop μ-loop
 loop-holds c = search needs
 
-mul-block : tie.Need-mul-block Inv-loop μ-loop
-mul-block c = search needs
+next-requires : tie.Need-next-requires Inv-loop μ-loop
+next-requires c κs = search needs
 
-block-requires : tie.Need-block-requires Inv-loop μ-loop
-block-requires c κs = search needs
-
-add-blocks : tie.Need-add-blocks Inv-loop μ-loop
-add-blocks c = search needs
+add-lines : tie.Need-add-lines Inv-loop μ-loop
+add-lines c = search needs
 
 loop-less : tie.Need-loop-less Inv-loop μ-loop
 loop-less c = search needs
@@ -41,9 +38,8 @@ main-spec =
     Inv-loop
     μ-loop
     loop-holds
-    mul-block
-    block-requires
-    add-blocks
+    next-requires
+    add-lines
     loop-less
     loop-again
     returns

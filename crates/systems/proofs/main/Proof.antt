@@ -1,0 +1,35 @@
+-- `systems::main` is safe and ends. The measure is what is left of the lines that it may read: a turn that goes on has read
+-- some.
+use Prim.Native.Nat.{_≤_, _-_}
+use borrow.Author.Needs.{needs}
+use Rattle.systems.proofs.main.Statement.{statement}
+use Rattle.systems.proofs.main.Tie as tie
+
+abbrev Inv-loop : tie.InvT-loop
+Inv-loop lines₀ lines = lines₀ ≤ lines
+
+abbrev μ-loop : tie.MeasureT-loop
+μ-loop lines₀ lines = 0x100_0000_0000 - lines
+
+loop-holds : tie.Need-loop-holds Inv-loop μ-loop
+loop-holds c = search needs
+
+system-requires : tie.Need-system-requires Inv-loop μ-loop
+system-requires c κs = search needs
+
+returns : tie.Need-returns Inv-loop μ-loop
+returns c = search needs
+
+loop-less : tie.Need-loop-less Inv-loop μ-loop
+loop-less c = search needs
+
+loop-again : tie.Need-loop-again Inv-loop μ-loop
+loop-again c = search needs
+
+returns-2 : tie.Need-returns-2 Inv-loop μ-loop
+returns-2 c = search needs
+
+pub main-spec : {M : Type 1} → statement M
+main-spec =
+    tie.close
+    (tie.spec Inv-loop μ-loop loop-holds system-requires returns loop-less loop-again returns-2)
