@@ -1,3 +1,4 @@
 pub mod Number
 pub mod Table
+pub mod Sums
 pub mod Values
