@@ -1,9 +1,9 @@
 -- Laws of rows and tables: a list that is filled in part, followed one store further, and that a table's places lie within 256. Assumes nothing.
 use Prim.Native.Nat.{ℕ, zero, suc, _+_, _-_, _*_, _<_, _≤_}
-use mathlib.Core.Path.{_≡_, refl, _∙_}
+use mathlib.Core.Path.{_≡_, refl, sym, _∙_, subst}
 use mathlib.Core.List.{List, _++_, append-assoc, append-nil}
 use native.Mathlib.Numerals.{add-one}
-use native.Mathlib.Nat.{add-zero, add-suc, mul-le-mul, mul-le-mul-right, suc-mul}
+use native.Mathlib.Nat.{zero-add, add-zero, add-suc, mul-le-mul, mul-le-mul-right, suc-mul}
 use native.Mathlib.Omega.{arith}
 use lib.Arith.{digits-lt}
 use lib.ListN.{length, set, take, drop, length-append, length-drop, length-take, take-append-drop, List·getD-append}
@@ -87,3 +87,8 @@ row-within n i h hi = omega (arith, mul-le-mul-right n hi, suc-mul i n, mul-le-m
 -- row i ends where a later row starts, or before
 pub row-before : (n i r : ℕ) → i < r → i * n + n ≤ r * n
 row-before n i r h = omega (arith, mul-le-mul-right n h, suc-mul i n)
+
+-- ---- an array whose first n places are filled
+
+pub fill-more : (f : ℕ → Float) (n : ℕ) (l : List Float) {m : List Float} → m ≡ fillAt 0 f n l → {v : Float} → v ≡ f n → n < length l → set m n v ≡ fillAt 0 f (n + 1) l
+fill-more f n l {m} e {v} d h = subst (λ (i : ℕ). set m i v ≡ fillAt 0 f (n + 1) l) (zero-add n) (fillAt-more 0 f n l e d (subst (λ (i : ℕ). i < length l) (sym (zero-add n)) h))

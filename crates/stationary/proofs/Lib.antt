@@ -1,0 +1,6 @@
+-- the entries of the system, by the code's tests
+mod Entries
+-- the check of one share
+mod OneShare
+-- what is made of the solver's answer
+mod Answers
