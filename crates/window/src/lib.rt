@@ -67,11 +67,13 @@ pub fn predecessor(a: usize, x: usize, k: usize, order: usize, powers: &[usize; 
     a / k + x * powers[order]
 }
 
-// The window after a, with label r now. The cut by k^order drops a's oldest label.
+// The window after a, with label r now.
 pub fn successor(a: usize, r: usize, k: usize, order: usize, powers: &[usize; 9]) -> usize
     requires { ⌜ Given k order (now powers) a ⌝ }
     requires { ⌜ r < k ⌝ }
     ensures { λ b. ⌜ b ≡ number k (successor order (labels k (suc order) a) r) ⌝ }
 {
-    r + a % powers[order] * k
+    // all labels of a but the oldest
+    let kept = a % powers[order];
+    r + kept * k
 }
