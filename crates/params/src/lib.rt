@@ -1,7 +1,13 @@
 // The parameters of a model, and the checks of document 01 on them.
+ghost use mathlib.Core.Path.{_≡_};
+ghost use Rattle.params.specs.Parameters.{k, p, switches, matchesSpec};
+ghost use Rattle.params.specs.Checks.{parameterCheck};
+ghost use Rattle.params.specs.Durations.{durationsOf};
 use refusal::Check;
 use refusal::Refusal;
 use spec::MsarSpec;
+
+mod checks;
 
 // As a caller hands them in: arrays of which as many places are used as the counts say. k is the count of means. AR
 // coefficients come in blocks of `order`; they switch with the regime exactly where there is not one block, and so the
@@ -26,7 +32,62 @@ pub struct Durations {
 }
 
 impl MsarParams {
-    pub fn k_regimes(self) -> usize {
+    pub fn k_regimes(self) -> usize
+        ensures { λ r. ⌜ r ≡ k self ⌝ }
+    {
         self.means_count
+    }
+
+    pub fn order(self) -> usize
+        ensures { λ r. ⌜ r ≡ p self ⌝ }
+    {
+        self.order
+    }
+
+    pub fn switching_ar(self) -> bool
+        ensures { λ r. ⌜ r ≡ switches (self .«ar_blocks») ⌝ }
+    {
+        self.ar_blocks != 1
+    }
+
+    pub fn switching_variance(self) -> bool
+        ensures { λ r. ⌜ r ≡ switches (self .«variances_count») ⌝ }
+    {
+        self.variances_count != 1
+    }
+
+    // It only compares.
+    pub fn matches_spec(self, s: MsarSpec) -> bool
+        ensures { λ r. ⌜ r ≡ matchesSpec s self ⌝ }
+    {
+        (self.means_count == s.k_regimes)
+            & (self.order == s.order)
+            & (self.switching_ar() == s.switching_ar)
+            & (self.switching_variance() == s.switching_variance)
+    }
+
+    // The checks of document 01, in its order. The counts are tested before they are used.
+    pub fn check(self) -> Check
+        ensures { λ r. ⌜ r ≡ parameterCheck self ⌝ }
+    {
+        if self.means_count < 2 {
+            return Check::Failed(Refusal::FewMeans(self.means_count));
+        }
+        if self.means_count > 16 {
+            return Check::Failed(Refusal::Beyond(self.means_count));
+        }
+        if self.order > 7 {
+            return Check::Failed(Refusal::Beyond(self.order));
+        }
+        if let Check::Failed(r) = checks::means(self) {
+            return Check::Failed(r);
+        }
+        if let Check::Failed(r) = checks::transition(self) {
+            return Check::Failed(r);
+        }
+        if let Check::Failed(r) = checks::ar(self) {
+            return Check::Failed(r);
+        }
+        checks::variances(self)
     }
 }
