@@ -4,3 +4,7 @@ mod Entries
 mod OneShare
 -- what is made of the solver's answer
 mod Answers
+-- how many regimes parameters that pass have
+mod Counts
+-- no second outcome satisfies a contract
+pub mod Unique

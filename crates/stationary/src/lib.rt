@@ -2,8 +2,9 @@
 ghost use mathlib.Core.Path.{_≡_};
 ghost use Prim.Native.Nat.{_<_, _≤_};
 ghost use Rattle.refusal.specs.Checks.{each};
-ghost use Rattle.stationary.specs.Stationary.{entry, side, shareTable, shareSides, shareCheck, none, solvedShares};
+ghost use Rattle.stationary.specs.Stationary.{entry, side, shareTable, shareSides, shareCheck, none, solvedShares, sharesOf};
 use linsolve::Outcome;
+use params::MsarParams;
 use refusal::Check;
 use refusal::Refusal;
 
@@ -116,4 +117,16 @@ fn none(r: Refusal) -> Shares
         check: Check::Failed(r),
         values: [0.0; 16],
     }
+}
+
+// The stationary shares: the parameter checks first, then 21 with place 0, then 22.
+pub fn stationary_shares(q: MsarParams) -> Shares
+    ensures { λ r. ⌜ r ≡ sharesOf q ⌝ }
+{
+    match q.check() {
+        Check::Passed => {}
+        Check::Failed(r) => return none(r),
+    }
+    let transition = q.transition;
+    solved_shares(transition, q.means_count)
 }
