@@ -8,3 +8,5 @@ mod Answers
 mod Counts
 -- no second outcome satisfies a contract
 pub mod Unique
+-- P4 and P6
+pub mod Examples
