@@ -2,6 +2,7 @@
 use mathlib.Core.Path.{_≡_, refl}
 use mathlib.Core.List.{List, [], _∷_, _++_}
 use Prim.Native.Nat.{ℕ}
+use mathlib.Core.Option.{bind}
 use lib.ListN.{replicate}
 use lib.Ieee.{Float, add, sub, mul, div, neg, lt, le, eq, ne, ofBits}
 use Rattle.number.specs.Number.{zero⁺, one, float, magnitudeOf}
@@ -29,5 +30,5 @@ pub record Values : Type 0 where
   pub p6 : solvedShares 2 (two-by-two one zero⁺ zero⁺ one) ≡ none (Singular 0)
 
 pub values : Values
-unfolding solvedShares shareTable shareSides entry coefficient side shareCheck each solveOf answer eliminateTo column clearTo clearRow lessRow less placed swapRows pivotTo better backTo unknown lessKnown fillAt tab magnitudeOf add sub mul div neg lt le eq ne ofBits
+unfolding solvedShares shareTable shareSides entry coefficient side shareCheck each solveOf answer eliminateTo column clearTo clearRow lessRow less placed swapRows pivotTo better backTo unknown lessKnown fillAt tab magnitudeOf add sub mul div neg lt le eq ne ofBits bind
 values = record { p4 = refl; p6 = refl }
