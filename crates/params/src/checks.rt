@@ -5,7 +5,7 @@ ghost use Prim.Native.Nat.{_*_, _≤_, _<_};
 ghost use Rattle.number.specs.Number.{_=?_};
 ghost use Rattle.refusal.specs.Checks.{_before_, _when_, each};
 ghost use Rattle.refusal.specs.declared.Refusal.the-variants.{Length, NoAr};
-ghost use Rattle.params.specs.Parameters.{k, p};
+ghost use Rattle.params.specs.Parameters.{k, p, P};
 ghost use Rattle.params.specs.Checks.{isProbability, usable, columnSum};
 ghost use Rattle.params.specs.Checks.{meanCheck, entryCheck, columnCheck, arCheck, varianceCheck};
 use crate::MsarParams;
@@ -29,6 +29,15 @@ fn one_or_each(count: usize, regimes: usize) -> bool
     ensures { λ r. ⌜ r ≡ (count =? 1 || count =? regimes) ⌝ }
 {
     (count == 1) | (count == regimes)
+}
+
+// P[i][j]: label i now, label j before.
+pub fn step(q: MsarParams, i: usize, j: usize) -> f64
+    requires { ⌜ (k q ≤ 16) × (i < k q) × (j < k q) ⌝ }
+    ensures { λ r. ⌜ r ≡ P q i j ⌝ }
+{
+    let n = q.means_count;
+    q.transition[i * n + j]
 }
 
 // ---- checks at each place
@@ -67,7 +76,7 @@ fn column_sum(q: MsarParams, j: usize) -> f64
     let n = q.means_count;
     let mut sum = 0.0;
     for i in 0..n {
-        sum = sum + q.transition[i * n + j];
+        sum = sum + step(q, i, j);
     }
     sum
 }
@@ -123,11 +132,11 @@ pub fn transition(q: MsarParams) -> Check
         before each (k q) (columnCheck q)) ⌝ }
 {
     let n = q.means_count;
-    let expected = n * n;
-    if q.transition_count != expected {
-        return Check::Failed(Refusal::Length(expected));
+    let square = n * n;
+    if q.transition_count != square {
+        return Check::Failed(Refusal::Length(square));
     }
-    if let Check::Failed(r) = entries(q, expected) {
+    if let Check::Failed(r) = entries(q, square) {
         return Check::Failed(r);
     }
     columns(q)

@@ -1,8 +1,10 @@
 // The parameters of a model, and the checks of document 01 on them.
 ghost use mathlib.Core.Path.{_≡_};
+ghost use Prim.Native.Nat.{_≤_};
+ghost use Rattle.number.specs.Table.{tab};
 ghost use Rattle.params.specs.Parameters.{k, p, switches, matchesSpec};
 ghost use Rattle.params.specs.Checks.{parameterCheck};
-ghost use Rattle.params.specs.Durations.{durationsOf};
+ghost use Rattle.params.specs.Durations.{duration, sixteen, durationsOf};
 use refusal::Check;
 use refusal::Refusal;
 use spec::MsarSpec;
@@ -90,4 +92,34 @@ impl MsarParams {
         }
         checks::variances(self)
     }
+
+    // 1 / (1 - P[i][i]) for each label, +infinity where it stays for ever; after the checks.
+    pub fn expected_durations(self) -> Durations
+        ensures { λ r. ⌜ r ≡ durationsOf self ⌝ }
+    {
+        if let Check::Failed(r) = self.check() {
+            return Durations {
+                check: Check::Failed(r),
+                values: [0.0; 16],
+            };
+        }
+        let values = stays(self);
+        Durations {
+            check: Check::Passed,
+            values,
+        }
+    }
+}
+
+// The first k places are 1 / (1 - P[i][i]), the others +0.
+fn stays(q: MsarParams) -> [f64; 16]
+    requires { ⌜ k q ≤ 16 ⌝ }
+    ensures { λ r. ⌜ r ≡ sixteen (k q) (tab (duration q) (k q)) ⌝ }
+{
+    let n = q.means_count;
+    let mut values = [0.0; 16];
+    for i in 0..n {
+        values[i] = 1.0 / (1.0 - checks::step(q, i, i));
+    }
+    values
 }

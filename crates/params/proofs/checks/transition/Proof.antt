@@ -5,8 +5,8 @@ use borrow.Author.Needs.{needs}
 use Rattle.params.proofs.checks.transition.Statement.{statement}
 use Rattle.params.proofs.checks.transition.Tie as tie
 
-mul-expected : tie.Need-mul-expected
-mul-expected c = omega (arith, mul-le-mul (c .pre) (c .pre))
+mul-square : tie.Need-mul-square
+mul-square c = omega (arith, mul-le-mul (c .pre) (c .pre))
 
 returns : tie.Need-returns
 returns c = rw (ne-eqb _ _ (c .if1 .taken))
@@ -33,7 +33,7 @@ pub transition-spec : {M : Type 1} → statement M
 transition-spec =
     tie.close
     (tie.spec
-    mul-expected
+    mul-square
     returns
     entries-requires
     enum-known-r
