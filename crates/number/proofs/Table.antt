@@ -1,13 +1,14 @@
 -- Laws of rows and tables: a list that is filled in part, followed one store further, and that a table's places lie within 256. Assumes nothing.
 use Prim.Native.Nat.{ℕ, zero, suc, _+_, _-_, _*_, _<_, _≤_}
-use mathlib.Core.Path.{_≡_, refl, _∙_}
-use mathlib.Core.List.{List, _++_, append-assoc, append-nil}
+use mathlib.Core.Path.{_≡_, refl, sym, ap, _∙_, subst}
+use mathlib.Core.Logic.{⊎-elim}
+use mathlib.Core.List.{List, [], _∷_, _++_, append-assoc, append-nil, List·Memᴰ, List·Memᴰ·head, List·Memᴰ·not-nil, List·Memᴰ·append-cases, List·Memᴰ·eq-of-singleton, Memᴰ·append-left, Memᴰ·append-right}
 use native.Mathlib.Numerals.{add-one}
-use native.Mathlib.Nat.{add-zero, add-suc, mul-le-mul, mul-le-mul-right, suc-mul}
+use native.Mathlib.Nat.{zero-add, add-zero, add-suc, mul-le-mul, mul-le-mul-right, suc-mul, le-of-suc-le-suc, not-suc-le-zero, eq-or-lt-of-le}
 use native.Mathlib.Omega.{arith}
 use lib.Arith.{digits-lt}
-use lib.ListN.{length, set, take, drop, length-append, length-drop, length-take, take-append-drop, List·getD-append}
-use lib.Seq.{length-take-le, drop-cons, set-at, getD-append-add, getD-drop, getD-take, set-append-left, take-set-lt, drop-set-lt}
+use lib.ListN.{length, getD, set, take, drop, length-append, length-drop, length-take, take-append-drop, List·getD-append}
+use lib.Seq.{length-take-le, drop-cons, set-at, getD-append-add, getD-at, getD-drop, getD-take, set-append-left, take-set-lt, drop-set-lt}
 use lib.Ieee.{Float, nan}
 use Rattle.number.specs.Table.{_!_, tab, fillAt}
 
@@ -20,6 +21,34 @@ pub tab-ext : {A : Type 0} (f g : ℕ → A) (n : ℕ) → ((i : ℕ) → i < n 
 unfolding tab
 tab-ext f g zero h = refl
 tab-ext f g (suc n) h = rw (tab-ext f g n (λ i l. h i (omega arith)), h n (omega arith))
+
+pub getD-tab : {A : Type 0} (f : ℕ → A) (n i : ℕ) (d : A) → i < n → getD (tab f n) i d ≡ f i
+unfolding tab
+getD-tab f zero i d h = absurd (not-suc-le-zero h)
+getD-tab f (suc n) i d h =
+    ⊎-elim
+    (λ (e : i ≡ n). rw e (getD-at (tab f n) (f n) [] d n (length-tab f n)))
+    (λ (l : i < n). List·getD-append (tab f n) _ d i (rw length-tab l) ∙ getD-tab f n i d l)
+    (eq-or-lt-of-le (le-of-suc-le-suc h))
+
+-- the members of a row are f 0, .., f (n - 1)
+pub in-tab : {A : Type 0} (f : ℕ → A) (n : ℕ) {i : ℕ} {y : A} → i < n → y ≡ f i → List·Memᴰ y (tab f n)
+unfolding tab
+in-tab f zero h e = absurd (not-suc-le-zero h)
+in-tab f (suc n) {i} {y} h e =
+    ⊎-elim
+    (λ (q : i ≡ n). Memᴰ·append-right (tab f n) (List·Memᴰ·head (e ∙ ap f q)))
+    (λ (l : i < n). Memᴰ·append-left _ (in-tab f n l e))
+    (eq-or-lt-of-le (le-of-suc-le-suc h))
+
+pub of-tab : {A : Type 0} (f : ℕ → A) (n : ℕ) {y : A} → List·Memᴰ y (tab f n) → (i : ℕ) × (i < n) × (y ≡ f i)
+unfolding tab
+of-tab f zero m = absurd (List·Memᴰ·not-nil m)
+of-tab f (suc n) {y} m =
+    ⊎-elim
+    (λ (m′ : List·Memᴰ y (tab f n)). let s = of-tab f n m′ in (s .0, omega (arith, s .1), s .2))
+    (λ (m′ : List·Memᴰ y (f n ∷ [])). (n, omega arith, List·Memᴰ·eq-of-singleton m′))
+    (List·Memᴰ·append-cases (tab f n) m)
 
 -- ---- a list l whose n places from s on are filled with f; the list so filled is m
 
@@ -87,3 +116,8 @@ row-within n i h hi = omega (arith, mul-le-mul-right n hi, suc-mul i n, mul-le-m
 -- row i ends where a later row starts, or before
 pub row-before : (n i r : ℕ) → i < r → i * n + n ≤ r * n
 row-before n i r h = omega (arith, mul-le-mul-right n h, suc-mul i n)
+
+-- ---- an array whose first n places are filled
+
+pub fill-more : (f : ℕ → Float) (n : ℕ) (l : List Float) {m : List Float} → m ≡ fillAt 0 f n l → {v : Float} → v ≡ f n → n < length l → set m n v ≡ fillAt 0 f (n + 1) l
+fill-more f n l {m} e {v} d h = subst (λ (i : ℕ). set m i v ≡ fillAt 0 f (n + 1) l) (zero-add n) (fillAt-more 0 f n l e d (subst (λ (i : ℕ). i < length l) (sym (zero-add n)) h))

@@ -1,4 +1,6 @@
--- what numbers of binary64 are asked: operations, bit patterns, tests, magnitude, max
+-- operations, patterns, tests, magnitude, max
 pub mod Number
+-- sums upward
+pub mod Sums
 -- rows and tables
 pub mod Table

@@ -1,0 +1,10 @@
+-- what a test that the code makes says of a check
+pub mod Tests
+-- the checks in their order, part by part
+pub mod Order
+-- what the durations need
+pub mod Sixteen
+-- no second outcome satisfies a contract
+pub mod Unique
+-- document 01's P10 and P11, and one record for each refusal
+pub mod Examples

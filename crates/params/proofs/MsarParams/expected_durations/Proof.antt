@@ -1,0 +1,30 @@
+use mathlib.Core.Path.{sym, _∙_}
+use borrow.Author.Needs.{needs}
+use Rattle.params.specs.Durations.{durationsOf}
+use Rattle.params.proofs.Sixteen.{at-most-16}
+use Rattle.params.proofs.MsarParams.expected_durations.Statement.{statement}
+use Rattle.params.proofs.MsarParams.expected_durations.Tie as tie
+
+check-requires : tie.Need-check-requires
+check-requires c κs = search needs
+
+enum-known-r : tie.Need-enum-known-r
+enum-known-r c = search needs
+
+returns : tie.Need-returns
+unfolding durationsOf
+returns c = rw (← c .before .before .before .check .ensures, c .before .r .given .1)
+
+enum-told : tie.Need-enum-told
+enum-told c = search needs
+
+stays-requires : tie.Need-stays-requires
+stays-requires c κs = at-most-16 _ (sym (c .before .before .check .ensures) ∙ c .enum-told .given .1)
+
+returns-2 : tie.Need-returns-2
+unfolding durationsOf
+returns-2 c = rw (← c .before .before .before .check .ensures, c .before .enum-told .given .1, c .stays .ensures)
+
+pub expected-durations-spec : {M : Type 1} → statement M
+expected-durations-spec =
+    tie.close (tie.spec check-requires enum-known-r returns enum-told stays-requires returns-2)

@@ -1,0 +1,63 @@
+use mathlib.Core.Bool.{not}
+use mathlib.Core.Path.{_≡_, sym, ap}
+use Prim.Native.Nat.{_-_, _≤_}
+use native.Mathlib.Omega.{arith}
+use borrow.Author.Needs.{needs}
+use Rattle.refusal.proofs.Each.{each-none, each-more, each-found}
+use Rattle.refusal.specs.declared.Check.the-variants.{Passed}
+use Rattle.refusal.specs.Checks.{each}
+use Rattle.params.specs.Checks.{arCheck}
+use Rattle.params.proofs.Tests.{refused, passed}
+use Rattle.params.proofs.checks.coefficients.Statement.{statement}
+use Rattle.params.proofs.checks.coefficients.Tie as tie
+
+abbrev Inv-loop : tie.InvT-loop
+Inv-loop q n i₀ i = (i ≤ n) × (each i (arCheck q) ≡ Passed)
+
+abbrev μ-loop : tie.MeasureT-loop
+μ-loop q n i₀ i = n - i
+
+loop-holds : tie.Need-loop-holds Inv-loop μ-loop
+loop-holds c = (omega arith, each-none _)
+
+mul-x : tie.Need-mul-x Inv-loop μ-loop
+mul-x c = search needs
+
+element-copy-out-x : tie.Need-element-copy-out-x Inv-loop μ-loop
+element-copy-out-x c = search needs
+
+is-finite-requires : tie.Need-is-finite-requires Inv-loop μ-loop
+is-finite-requires c κs = search needs
+
+returns : tie.Need-returns Inv-loop μ-loop
+unfolding arCheck
+returns c = sym (each-found _ _ (c .before .before .before .before .loop .inv .1) _ (c .before .before .before .loop-test .taken) (refused _ (ap not (c .before .is-finite .ensures)) (c .if1 .taken)))
+
+add-i : tie.Need-add-i Inv-loop μ-loop
+add-i c = search needs
+
+loop-less : tie.Need-loop-less Inv-loop μ-loop
+loop-less c = search needs
+
+loop-again : tie.Need-loop-again Inv-loop μ-loop
+unfolding arCheck
+loop-again c = (omega arith, each-more _ _ (c .before .before .before .before .loop .inv .1) (passed _ (ap not (c .before .is-finite .ensures)) (c .if1 .left)))
+
+returns-2 : tie.Need-returns-2 Inv-loop μ-loop
+returns-2 c = let e : c .before .loop .i ≡ c .before .before .args .t1 .«ar_count» = omega arith in sym (rw e at (c .before .loop .inv .1))
+
+pub coefficients-spec : {M : Type 1} → statement M
+coefficients-spec =
+    tie.close
+    (tie.spec
+    Inv-loop
+    μ-loop
+    loop-holds
+    mul-x
+    element-copy-out-x
+    is-finite-requires
+    returns
+    add-i
+    loop-less
+    loop-again
+    returns-2)

@@ -1,0 +1,14 @@
+use borrow.Author.Needs.{needs}
+use Rattle.params.specs.Checks.{usable}
+use Rattle.params.proofs.checks.is_usable.Statement.{statement}
+use Rattle.params.proofs.checks.is_usable.Tie as tie
+
+is-finite-requires : tie.Need-is-finite-requires
+is-finite-requires c κs = search needs
+
+returns : tie.Need-returns
+unfolding usable
+returns c = rw (c .is-finite .ensures)
+
+pub is-usable-spec : {M : Type 1} → statement M
+is-usable-spec = tie.close (tie.spec is-finite-requires returns)

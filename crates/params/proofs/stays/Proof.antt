@@ -1,0 +1,58 @@
+use mathlib.Core.Path.{_≡_, _∙_}
+use Prim.Native.Nat.{_-_, _≤_}
+use native.Mathlib.Omega.{arith}
+use borrow.Author.Needs.{needs}
+use lib.ListN.{replicate}
+use Rattle.number.proofs.Table.{fillAt-none}
+use Rattle.number.specs.Table.{fillAt}
+use Rattle.number.specs.Number.{zero⁺}
+use Rattle.params.specs.Durations.{duration}
+use Rattle.params.proofs.Sixteen.{store, filled}
+use Rattle.params.proofs.stays.Statement.{statement}
+use Rattle.params.proofs.stays.Tie as tie
+
+abbrev Inv-loop : tie.InvT-loop
+Inv-loop q n values₀ i₀ values i = (i ≤ n) × (values ≡ fillAt 0 (duration q) i (replicate 16 zero⁺))
+
+abbrev μ-loop : tie.MeasureT-loop
+μ-loop q n values₀ i₀ values i = n - i
+
+loop-holds : tie.Need-loop-holds Inv-loop μ-loop
+loop-holds c = (omega arith, fillAt-none _ _ _)
+
+step-requires : tie.Need-step-requires Inv-loop μ-loop
+step-requires c κs = search needs
+
+mul-values : tie.Need-mul-values Inv-loop μ-loop
+mul-values c = search needs
+
+array-write-values : tie.Need-array-write-values Inv-loop μ-loop
+array-write-values c = search needs
+
+add-i : tie.Need-add-i Inv-loop μ-loop
+add-i c = search needs
+
+loop-less : tie.Need-loop-less Inv-loop μ-loop
+loop-less c = search needs
+
+loop-again : tie.Need-loop-again Inv-loop μ-loop
+unfolding duration
+loop-again c = (omega arith, store _ _ (c .before .before .loop .inv .1) (rw (c .step .ensures)) (omega arith))
+
+returns : tie.Need-returns Inv-loop μ-loop
+returns c = let e : c .before .loop .i ≡ c .before .before .args .q .«means_count» = omega arith in rw e at (c .before .loop .inv .1) ∙ filled _ _
+
+pub stays-spec : {M : Type 1} → statement M
+stays-spec =
+    tie.close
+    (tie.spec
+    Inv-loop
+    μ-loop
+    loop-holds
+    step-requires
+    mul-values
+    array-write-values
+    add-i
+    loop-less
+    loop-again
+    returns)

@@ -1,0 +1,6 @@
+-- each outcome of the window count, from what the code tests
+pub mod Count
+-- no second outcome satisfies the contract
+pub mod Unique
+-- document 01's P3
+pub mod Examples

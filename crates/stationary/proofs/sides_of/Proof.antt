@@ -1,0 +1,57 @@
+use mathlib.Core.Path.{_≡_}
+use native.Mathlib.Omega.{arith}
+use borrow.Author.Needs.{needs}
+use Prim.Native.Nat.{_-_, _≤_}
+use lib.ListN.{length, replicate}
+use Rattle.number.specs.Number.{zero⁺}
+use Rattle.number.specs.Table.{fillAt}
+use Rattle.number.proofs.Table.{fillAt-none, fill-more}
+use Rattle.stationary.specs.Stationary.{side, shareSides}
+use Rattle.stationary.proofs.sides_of.Statement.{statement}
+use Rattle.stationary.proofs.sides_of.Tie as tie
+
+abbrev Inv-loop : tie.InvT-loop
+Inv-loop n b₀ i₀ b i = (i ≤ n) × (b ≡ fillAt 0 (side n) i (replicate 16 zero⁺))
+
+abbrev μ-loop : tie.MeasureT-loop
+μ-loop n b₀ i₀ b i = n - i
+
+loop-holds : tie.Need-loop-holds Inv-loop μ-loop
+loop-holds c = (omega arith, fillAt-none 0 _ _)
+
+side-at-requires : tie.Need-side-at-requires Inv-loop μ-loop
+side-at-requires c κs = search needs
+
+mul-b : tie.Need-mul-b Inv-loop μ-loop
+mul-b c = search needs
+
+array-write-b : tie.Need-array-write-b Inv-loop μ-loop
+array-write-b c = search needs
+
+add-i : tie.Need-add-i Inv-loop μ-loop
+add-i c = search needs
+
+loop-less : tie.Need-loop-less Inv-loop μ-loop
+loop-less c = omega arith
+
+loop-again : tie.Need-loop-again Inv-loop μ-loop
+loop-again c = (omega arith, fill-more _ _ _ (c .before .before .loop .inv .1) (c .side-at .ensures) (omega arith))
+
+returns : tie.Need-returns Inv-loop μ-loop
+unfolding shareSides
+returns c = let e : c .before .loop .i ≡ c .before .before .args .n = omega arith in rw e at (c .before .loop .inv .1)
+
+pub sides-of-spec : {M : Type 1} → statement M
+sides-of-spec =
+    tie.close
+    (tie.spec
+    Inv-loop
+    μ-loop
+    loop-holds
+    side-at-requires
+    mul-b
+    array-write-b
+    add-i
+    loop-less
+    loop-again
+    returns)

@@ -1,0 +1,39 @@
+use mathlib.Core.Path.{sym, _∙_}
+use native.Mathlib.Omega.{arith}
+use borrow.Author.Needs.{needs}
+use Rattle.stationary.proofs.Counts.{counted, shares-refused, shares-solved}
+use Rattle.stationary.proofs.stationary_shares.Statement.{statement}
+use Rattle.stationary.proofs.stationary_shares.Tie as tie
+
+check-requires : tie.Need-check-requires
+check-requires c κs = search needs
+
+enum-told : tie.Need-enum-told
+enum-told c = search needs
+
+enum-known-r : tie.Need-enum-known-r
+enum-known-r c = search needs
+
+none-requires : tie.Need-none-requires
+none-requires c κs = search needs
+
+returns : tie.Need-returns
+returns c = c .none .ensures ∙ shares-refused (c .before .before .before .before .before .args .q) (sym (c .before .before .before .before .check .ensures) ∙ c .before .before .r .given .1)
+
+solved-shares-requires : tie.Need-solved-shares-requires
+solved-shares-requires c κs = let h = counted (c .before .before .before .before .args .q) (sym (c .before .before .before .check .ensures) ∙ c .before .enum-told .given .1) in (h .within, omega arith)
+
+returns-2 : tie.Need-returns-2
+returns-2 c = c .solved-shares .ensures ∙ shares-solved (c .before .before .before .before .before .args .q) (sym (c .before .before .before .before .check .ensures) ∙ c .before .before .enum-told .given .1)
+
+pub stationary-shares-spec : {M : Type 1} → statement M
+stationary-shares-spec =
+    tie.close
+    (tie.spec
+    check-requires
+    enum-told
+    enum-known-r
+    none-requires
+    returns
+    solved-shares-requires
+    returns-2)

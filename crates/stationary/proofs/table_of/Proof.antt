@@ -1,0 +1,62 @@
+use mathlib.Core.Path.{_≡_}
+use native.Mathlib.Omega.{arith}
+use borrow.Author.Needs.{needs}
+use Prim.Native.Nat.{_-_, _*_, _≤_}
+use native.Mathlib.Nat.{mul-le-mul}
+use lib.ListN.{length, replicate}
+use Rattle.number.specs.Number.{zero⁺}
+use Rattle.number.specs.Table.{fillAt}
+use Rattle.number.proofs.Table.{fillAt-none, fill-more}
+use Rattle.stationary.specs.Stationary.{entry, shareTable}
+use Rattle.stationary.proofs.table_of.Statement.{statement}
+use Rattle.stationary.proofs.table_of.Tie as tie
+
+abbrev Inv-loop : tie.InvT-loop
+Inv-loop transition n a₀ e₀ a e = (e ≤ n * n) × (a ≡ fillAt 0 (entry n transition) e (replicate 256 zero⁺)) × (n * n ≤ 256)
+
+abbrev μ-loop : tie.MeasureT-loop
+μ-loop transition n a₀ e₀ a e = n * n - e
+
+loop-holds : tie.Need-loop-holds Inv-loop μ-loop
+loop-holds c = (omega arith, fillAt-none 0 _ _, omega (arith, mul-le-mul (c .pre .0) (c .pre .0)))
+
+mul-loop : tie.Need-mul-loop Inv-loop μ-loop
+mul-loop c = search needs
+
+entry-at-requires : tie.Need-entry-at-requires Inv-loop μ-loop
+entry-at-requires c κs = search needs
+
+mul-a : tie.Need-mul-a Inv-loop μ-loop
+mul-a c = search needs
+
+array-write-a : tie.Need-array-write-a Inv-loop μ-loop
+array-write-a c = search needs
+
+add-e : tie.Need-add-e Inv-loop μ-loop
+add-e c = search needs
+
+loop-less : tie.Need-loop-less Inv-loop μ-loop
+loop-less c = omega arith
+
+loop-again : tie.Need-loop-again Inv-loop μ-loop
+loop-again c = (omega arith, fill-more _ _ _ (c .before .before .loop .inv .1) (c .entry-at .ensures) (omega arith), c .before .before .loop .inv .2)
+
+returns : tie.Need-returns Inv-loop μ-loop
+unfolding shareTable
+returns c = let e : c .before .loop .e ≡ c .before .before .args .n * c .before .before .args .n = omega arith in rw e at (c .before .loop .inv .1)
+
+pub table-of-spec : {M : Type 1} → statement M
+table-of-spec =
+    tie.close
+    (tie.spec
+    Inv-loop
+    μ-loop
+    loop-holds
+    mul-loop
+    entry-at-requires
+    mul-a
+    array-write-a
+    add-e
+    loop-less
+    loop-again
+    returns)

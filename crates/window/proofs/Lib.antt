@@ -1,0 +1,12 @@
+-- numbers and lists of labels
+pub mod Windows
+-- the windows that may come next, and those that may have come before
+pub mod Neighbours
+-- the table of powers
+pub mod Table
+-- the code's arithmetic
+pub mod Given
+-- rows and times
+pub mod Times
+-- P1 and P2
+pub mod Examples
