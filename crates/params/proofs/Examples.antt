@@ -52,14 +52,14 @@ means = zero⁺ ∷ one ∷ []
 abbrev variances : List Float
 variances = one ∷ []
 
--- columns (1, 0) and (0.5, 0.49)
-pub p10 : parameterCheck (params 2 4 1 0 0 1 (one ∷ half ∷ zero⁺ ∷ float 0x3FDF_5C28_F5C2_8F5C ∷ []) means [] variances) ≡ Failed (Column 1 (float 0x3FEF_AE14_7AE1_47AE))
-unfolding parameterCheck meanCheck entryCheck columnCheck columnSum sumUp isProbability each magnitudeOf lt le eq ofBits mul add sub neg sum round size units odd span climb ofFields trailingZeros
-p10 = refl
+pub record Values : Type 0 where
+  -- columns (1, 0) and (0.5, 0.49)
+  pub p10 : parameterCheck (params 2 4 1 0 0 1 (one ∷ half ∷ zero⁺ ∷ float 0x3FDF_5C28_F5C2_8F5C ∷ []) means [] variances) ≡ Failed (Column 1 (float 0x3FEF_AE14_7AE1_47AE))
+  pub p11 : durationsOf (params 2 4 1 0 0 1 steps means [] variances) ≡ record { check = Passed; values = padded 16 (float 0x4010_0000_0000_0000 ∷ inf false ∷ []) }
 
-pub p11 : durationsOf (params 2 4 1 0 0 1 steps means [] variances) ≡ record { check = Passed; values = padded 16 (float 0x4010_0000_0000_0000 ∷ inf false ∷ []) }
+pub values : Values
 unfolding durationsOf duration tab parameterCheck meanCheck entryCheck columnCheck arCheck varianceCheck columnSum sumUp isProbability usable each magnitudeOf lt le eq ofBits mul div add sub neg sum round size units odd span climb ofFields trailingZeros
-p11 = refl
+values = record { p10 = refl; p11 = refl }
 
 -- each other refusal, by its number
 pub record Refused : Type 0 where

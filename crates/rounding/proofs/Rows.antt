@@ -141,6 +141,9 @@ pub demand-3-of : (k : ℕ) (ws : List Float) → 0 < k → length ws ≤ 256 �
 demand-3-of k ws K few g t p = demand-3 k ws K few (all-good binary64 ws g t) t p
 
 -- document 01's P8: the weights 1, 1, 1 of three labels have the exact total 1 - 2 ^ -54
-pub p8 : sumTo (λ i. inUnits binary64 (probability binary64 3 (fin false 1 (pos 0) ∷ fin false 1 (pos 0) ∷ fin false 1 (pos 0) ∷ []) i)) 3 ≡ 2 ^ 1074 - 2 ^ 1020
+pub record P8 : Type 0 where
+  pub exact-total : sumTo (λ i. inUnits binary64 (probability binary64 3 (fin false 1 (pos 0) ∷ fin false 1 (pos 0) ∷ fin false 1 (pos 0) ∷ []) i)) 3 ≡ 2 ^ 1074 - 2 ^ 1020
+
+pub p8 : P8
 unfolding inUnits add div ofBits
-p8 = refl
+p8 = record { exact-total = refl }

@@ -1,0 +1,2 @@
+-- document 01's twelve proved examples, as far as their parts stand
+pub mod Twelve
