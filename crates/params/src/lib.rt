@@ -81,16 +81,14 @@ impl MsarParams {
         if self.order > 7 {
             return Check::Failed(Refusal::Beyond(self.order));
         }
-        if let Check::Failed(r) = checks::means(self) {
-            return Check::Failed(r);
-        }
-        if let Check::Failed(r) = checks::transition(self) {
-            return Check::Failed(r);
-        }
-        if let Check::Failed(r) = checks::ar(self) {
-            return Check::Failed(r);
-        }
-        checks::variances(self)
+        let means = checks::means(self);
+        let transition = checks::transition(self);
+        let ar = checks::ar(self);
+        let variances = checks::variances(self);
+        checks::first_of(
+            means,
+            checks::first_of(transition, checks::first_of(ar, variances)),
+        )
     }
 
     // 1 / (1 - P[i][i]) for each label, +infinity where it stays for ever; after the checks.
