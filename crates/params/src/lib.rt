@@ -5,6 +5,7 @@ ghost use Rattle.number.specs.Table.{tab};
 ghost use Rattle.params.specs.Parameters.{k, p, switches, matchesSpec};
 ghost use Rattle.params.specs.Checks.{parameterCheck};
 ghost use Rattle.params.specs.Durations.{duration, sixteen, durationsOf};
+use crate::checks::first_of;
 use refusal::Check;
 use refusal::Refusal;
 use spec::MsarSpec;
@@ -85,10 +86,7 @@ impl MsarParams {
         let transition = checks::transition(self);
         let ar = checks::ar(self);
         let variances = checks::variances(self);
-        checks::first_of(
-            means,
-            checks::first_of(transition, checks::first_of(ar, variances)),
-        )
+        first_of(means, first_of(transition, first_of(ar, variances)))
     }
 
     // 1 / (1 - P[i][i]) for each label, +infinity where it stays for ever; after the checks.
