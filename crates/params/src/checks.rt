@@ -40,6 +40,16 @@ pub fn step(q: MsarParams, i: usize, j: usize) -> f64
     q.transition[i * n + j]
 }
 
+// The first refusal of two checks.
+pub fn first_of(first: Check, second: Check) -> Check
+    ensures { λ r. ⌜ r ≡ (first before second) ⌝ }
+{
+    match first {
+        Check::Failed(r) => Check::Failed(r),
+        Check::Passed => second,
+    }
+}
+
 // ---- checks at each place
 
 pub fn means(q: MsarParams) -> Check
@@ -136,10 +146,9 @@ pub fn transition(q: MsarParams) -> Check
     if q.transition_count != square {
         return Check::Failed(Refusal::Length(square));
     }
-    if let Check::Failed(r) = entries(q, square) {
-        return Check::Failed(r);
-    }
-    columns(q)
+    let at_entries = entries(q, square);
+    let at_columns = columns(q);
+    first_of(at_entries, at_columns)
 }
 
 pub fn ar(q: MsarParams) -> Check

@@ -5,6 +5,7 @@ ghost use Rattle.number.specs.Table.{tab};
 ghost use Rattle.params.specs.Parameters.{k, p, switches, matchesSpec};
 ghost use Rattle.params.specs.Checks.{parameterCheck};
 ghost use Rattle.params.specs.Durations.{duration, sixteen, durationsOf};
+use crate::checks::first_of;
 use refusal::Check;
 use refusal::Refusal;
 use spec::MsarSpec;
@@ -81,16 +82,11 @@ impl MsarParams {
         if self.order > 7 {
             return Check::Failed(Refusal::Beyond(self.order));
         }
-        if let Check::Failed(r) = checks::means(self) {
-            return Check::Failed(r);
-        }
-        if let Check::Failed(r) = checks::transition(self) {
-            return Check::Failed(r);
-        }
-        if let Check::Failed(r) = checks::ar(self) {
-            return Check::Failed(r);
-        }
-        checks::variances(self)
+        let means = checks::means(self);
+        let transition = checks::transition(self);
+        let ar = checks::ar(self);
+        let variances = checks::variances(self);
+        first_of(means, first_of(transition, first_of(ar, variances)))
     }
 
     // 1 / (1 - P[i][i]) for each label, +infinity where it stays for ever; after the checks.
