@@ -4,6 +4,8 @@ pub mod Tests
 pub mod Order
 -- what the durations need
 pub mod Sixteen
+-- where the checks pass, the counts lie within the arrays
+pub mod Within
 -- no second outcome satisfies a contract
 pub mod Unique
 -- document 01's P10 and P11, and one record for each refusal

@@ -6,10 +6,12 @@ use Rattle.number.proofs.Unique.{one-outcome}
 use Rattle.refusal.specs.declared.Check.{Check}
 use Rattle.spec.specs.declared.MsarSpec.{MsarSpec}
 use Rattle.params.specs.declared.MsarParams.{MsarParams}
+use Rattle.params.specs.declared.Built.{Built}
 use Rattle.params.specs.declared.Durations.{Durations}
 use Rattle.params.specs.Parameters.{k, p, switches, matchesSpec}
 use Rattle.params.specs.Checks.{parameterCheck}
 use Rattle.params.specs.Durations.{durationsOf}
+use Rattle.params.specs.Built.{builtOf}
 
 module _ (q : MsarParams) where
   pub k-regimes-unique : (a b : ℕ) → a ≡ k q → b ≡ k q → a ≡ b
@@ -32,3 +34,6 @@ module _ (q : MsarParams) where
 
   pub expected-durations-unique : (a b : Durations) → a ≡ durationsOf q → b ≡ durationsOf q → a ≡ b
   expected-durations-unique a b = one-outcome
+
+  pub new-unique : (a b : Built) → a ≡ builtOf q → b ≡ builtOf q → a ≡ b
+  new-unique a b = one-outcome

@@ -1,3 +1,4 @@
 pub mod Parameters
 pub mod Checks
 pub mod Durations
+pub mod Built

@@ -5,12 +5,14 @@ ghost use Rattle.number.specs.Table.{tab};
 ghost use Rattle.params.specs.Parameters.{k, p, switches, matchesSpec};
 ghost use Rattle.params.specs.Checks.{parameterCheck};
 ghost use Rattle.params.specs.Durations.{duration, sixteen, durationsOf};
+ghost use Rattle.params.specs.Built.{builtOf};
 use crate::checks::first_of;
 use refusal::Check;
 use refusal::Refusal;
 use spec::MsarSpec;
 
 mod checks;
+mod tidy;
 
 // As a caller hands them in: arrays of which as many places are used as the counts say. k is the count of means. AR
 // coefficients come in blocks of `order`; they switch with the regime exactly where there is not one block, and so the
@@ -28,6 +30,12 @@ pub struct MsarParams {
     pub variances_count: usize,
 }
 
+// A record that passed the checks and holds +0 in the places that are not used, or the refusal beside a record of zeros.
+pub struct Built {
+    pub check: Check,
+    pub params: MsarParams,
+}
+
 // The expected durations, or the refusal that stands in their place.
 pub struct Durations {
     pub check: Check,
@@ -35,6 +43,16 @@ pub struct Durations {
 }
 
 impl MsarParams {
+    // The constructor: the parts come as a record, because they are ten.
+    pub fn new(given: MsarParams) -> Built
+        ensures { λ r. ⌜ r ≡ builtOf given ⌝ }
+    {
+        if let Check::Failed(r) = given.check() {
+            return tidy::refused(r);
+        }
+        tidy::passed(given)
+    }
+
     pub fn k_regimes(self) -> usize
         ensures { λ r. ⌜ r ≡ k self ⌝ }
     {

@@ -1,0 +1,30 @@
+use Rattle.params.specs.Built.{tidy}
+use Rattle.params.proofs.Within.{within}
+use Rattle.params.proofs.tidy.passed.Statement.{statement}
+use Rattle.params.proofs.tidy.passed.Tie as tie
+
+tidied-256-requires : tie.Need-tidied-256-requires
+tidied-256-requires c κs = within _ (c .before .before .pre) .transition
+
+tidied-16-requires : tie.Need-tidied-16-requires
+tidied-16-requires c κs = within _ (c .before .before .before .before .before .pre) .means
+
+tidied-112-requires : tie.Need-tidied-112-requires
+tidied-112-requires c κs = within _ (c .before .before .before .before .before .before .before .before .pre) .ar
+
+tidied-16-requires-2 : tie.Need-tidied-16-requires-2
+tidied-16-requires-2 c κs = within _ (c .before .before .before .before .before .before .before .before .before .before .before .pre) .variances
+
+returns : tie.Need-returns
+unfolding tidy
+returns c = cc
+
+pub passed-spec : {M : Type 1} → statement M
+passed-spec =
+    tie.close
+    (tie.spec
+    tidied-256-requires
+    tidied-16-requires
+    tidied-112-requires
+    tidied-16-requires-2
+    returns)
