@@ -6,6 +6,8 @@ pub mod Order
 pub mod Sixteen
 -- where the checks pass, the counts lie within the arrays
 pub mod Within
+-- a built record passes the checks again
+pub mod Again
 -- no second outcome satisfies a contract
 pub mod Unique
 -- document 01's P10 and P11, and one record for each refusal

@@ -25,6 +25,7 @@ untrue r false e = refl
 
 pub record Within (q : MsarParams) : Type 0 where
   pub transition : q .«transition_count» ≤ 256
+  pub square : q .«transition_count» ≡ k q * k q
   pub means : q .«means_count» ≤ 16
   pub ar : q .«ar_count» ≤ 112
   pub variances : q .«variances_count» ≤ 16
@@ -51,6 +52,7 @@ within q e =
     let coefficients : q .«ar_count» ≡ q .«ar_blocks» * p q = eqb-true _ _ (not-false _ (untrue _ _ (c₁₀ .0))) in
     record {
       transition = rw square (mul-le-mul regimes regimes);
+      square = square;
       means = regimes;
       ar = rw coefficients (mul-le-mul blocks order);
       variances = at-most _ _ refl (untrue _ _ (c₁₂ .0)) regimes;
