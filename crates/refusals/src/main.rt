@@ -81,122 +81,75 @@ fn count(k_regimes: usize, order: usize) {
     }
 }
 
-// Each of the four parts at fault alone.
-fn alone(q: MsarParams, nan: f64, infinity: f64) {
-    show(MsarParams {
-        means_count: 0,
+// ---- the record with one part changed
+
+fn means(q: MsarParams, count: usize, a: f64, b: f64) -> MsarParams {
+    MsarParams {
+        means: pair(a, b),
+        means_count: count,
         ..q
-    });
-    show(MsarParams {
-        means_count: 1,
+    }
+}
+
+fn transition(q: MsarParams, a: f64, b: f64, c: f64, d: f64) -> MsarParams {
+    MsarParams {
+        transition: table(a, b, c, d),
         ..q
-    });
-    show(MsarParams {
-        means: pair(0.0, nan),
+    }
+}
+
+fn ar(q: MsarParams, blocks: usize, a: f64, b: f64) -> MsarParams {
+    MsarParams {
+        ar: coefficients(a, b),
+        ar_blocks: blocks,
+        ar_count: blocks,
         ..q
-    });
-    show(MsarParams {
-        means: pair(-infinity, 1.0),
+    }
+}
+
+fn variances(q: MsarParams, count: usize, a: f64, b: f64) -> MsarParams {
+    MsarParams {
+        variances: pair(a, b),
+        variances_count: count,
         ..q
-    });
-    show(MsarParams {
-        transition: table(0.75, 0.0, -0.25, 1.0),
-        ..q
-    });
-    show(MsarParams {
-        transition: table(0.75, 1.00000002, 0.25, 0.0),
-        ..q
-    });
-    show(MsarParams {
-        transition: table(0.75, 0.0, 0.25, nan),
-        ..q
-    });
-    show(MsarParams {
-        transition: table(0.75, 1.00000001, 0.25, 0.0),
-        ..q
-    });
-    show(MsarParams {
-        transition: table(1.0, 0.5, 0.0, 0.49),
-        ..q
-    });
-    show(MsarParams {
-        transition: table(0.9, 0.9, 0.2, 0.2),
-        ..q
-    });
-    show(MsarParams {
-        ar_blocks: 0,
-        ar_count: 0,
-        ..q
-    });
-    show(MsarParams {
-        ar_blocks: 3,
-        ar_count: 3,
-        ..q
-    });
-    show(MsarParams {
-        ar: coefficients(0.5, infinity),
-        ar_blocks: 2,
-        ar_count: 2,
-        ..q
-    });
-    show(MsarParams {
-        variances_count: 0,
-        ..q
-    });
-    show(MsarParams {
-        variances_count: 3,
-        ..q
-    });
-    show(MsarParams {
-        variances: pair(1.0, 0.0),
-        variances_count: 2,
-        ..q
-    });
-    show(MsarParams {
-        variances: pair(-1.0, 1.0),
-        variances_count: 2,
-        ..q
-    });
-    show(MsarParams {
-        variances: pair(nan, 1.0),
-        ..q
-    });
-    show(MsarParams {
-        variances: pair(5e-324, 1.0),
-        ..q
-    });
+    }
+}
+
+// ---- the lines
+
+fn means_and_transition(q: MsarParams, nan: f64, infinity: f64) {
+    show(means(q, 0, 0.0, 0.0));
+    show(means(q, 1, 0.0, 0.0));
+    show(means(q, 2, 0.0, nan));
+    show(means(q, 2, -infinity, 1.0));
+    show(transition(q, 0.75, 0.0, -0.25, 1.0));
+    show(transition(q, 0.75, 1.00000002, 0.25, 0.0));
+    show(transition(q, 0.75, 0.0, 0.25, nan));
+    show(transition(q, 0.75, 1.00000001, 0.25, 0.0));
+    show(transition(q, 1.0, 0.5, 0.0, 0.49));
+    show(transition(q, 0.9, 0.9, 0.2, 0.2));
+}
+
+fn ar_and_variances(q: MsarParams, nan: f64, infinity: f64) {
+    show(ar(q, 0, 0.0, 0.0));
+    show(ar(q, 3, 0.0, 0.0));
+    show(ar(q, 2, 0.5, infinity));
+    show(variances(q, 0, 0.0, 0.0));
+    show(variances(q, 3, 1.0, 0.0));
+    show(variances(q, 2, 1.0, 0.0));
+    show(variances(q, 2, -1.0, 1.0));
+    show(variances(q, 1, nan, 0.0));
+    show(variances(q, 1, 5e-324, 0.0));
 }
 
 // Two parts at fault: the first of document 01's order answers.
 fn together(q: MsarParams, nan: f64) {
-    let off = table(0.75, 0.0, -0.25, 0.5);
-    show(MsarParams {
-        means: pair(0.0, nan),
-        transition: off,
-        ..q
-    });
-    show(MsarParams {
-        transition: off,
-        ar_blocks: 0,
-        ar_count: 0,
-        ..q
-    });
-    show(MsarParams {
-        transition: table(0.75, 0.0, 0.25, 0.5),
-        ar: coefficients(nan, 0.0),
-        ..q
-    });
-    show(MsarParams {
-        ar_blocks: 0,
-        ar_count: 0,
-        variances_count: 3,
-        ..q
-    });
-    show(MsarParams {
-        ar: coefficients(nan, 0.0),
-        variances: pair(0.0, 0.0),
-        ..q
-    });
+    let off = transition(q, 0.75, 0.0, -0.25, 0.5);
+    show(means(off, 2, 0.0, nan));
+    show(ar(off, 0, 0.0, 0.0));
+    show(ar(transition(q, 0.75, 0.0, 0.25, 0.5), 1, nan, 0.0));
+    show(variances(ar(q, 0, 0.0, 0.0), 3, 1.0, 0.0));
+    show(variances(ar(q, 1, nan, 0.0), 1, 0.0, 0.0));
 }
 
 fn main() {
@@ -204,7 +157,8 @@ fn main() {
     let infinity = 1.0 / 0.0;
     let q = good();
     show(q);
-    alone(q, nan, infinity);
+    means_and_transition(q, nan, infinity);
+    ar_and_variances(q, nan, infinity);
     together(q, nan);
     count(0, 0);
     count(1, 3);
