@@ -7,7 +7,7 @@ use lib.ListN.{replicate, length}
 use lib.Count.{trailingZeros}
 use lib.Ieee.{Float, inf, nan, lt, le, eq, ofBits, mul, div, add, sub, neg, sum, round, size, units, odd, span, climb, ofFields}
 use Rattle.number.specs.Number.{float, zero⁺, half, one, magnitudeOf}
-use Rattle.number.specs.Table.{tab}
+use Rattle.number.specs.Table.{tab, fillAt}
 use Rattle.number.specs.Sums.{sumUp}
 use Rattle.refusal.specs.Checks.{each}
 use Rattle.refusal.specs.declared.Check.the-variants.{Passed, Failed}
@@ -58,7 +58,7 @@ pub record Values : Type 0 where
   pub p11 : durationsOf (params 2 4 1 0 0 1 steps means [] variances) ≡ record { check = Passed; values = padded 16 (float 0x4010_0000_0000_0000 ∷ inf false ∷ []) }
 
 pub values : Values
-unfolding durationsOf duration tab parameterCheck meanCheck entryCheck columnCheck arCheck varianceCheck columnSum sumUp isProbability usable each magnitudeOf lt le eq ofBits mul div add sub neg sum round size units odd span climb ofFields trailingZeros
+unfolding durationsOf duration fillAt tab parameterCheck meanCheck entryCheck columnCheck arCheck varianceCheck columnSum sumUp isProbability usable each magnitudeOf lt le eq ofBits mul div add sub neg sum round size units odd span climb ofFields trailingZeros
 values = record { p10 = refl; p11 = refl }
 
 -- each other refusal, by its number

@@ -2,8 +2,6 @@
 pub mod Tests
 -- the checks in their order, part by part
 pub mod Order
--- what the durations need
-pub mod Sixteen
 -- where the checks pass, the counts lie within the arrays
 pub mod Within
 -- a built record passes the checks again

@@ -1,10 +1,9 @@
 // The parameters of a model, and the checks of document 01 on them.
 ghost use mathlib.Core.Path.{_≡_};
 ghost use Prim.Native.Nat.{_≤_};
-ghost use Rattle.number.specs.Table.{tab};
 ghost use Rattle.params.specs.Parameters.{k, p, switches, matchesSpec};
 ghost use Rattle.params.specs.Checks.{parameterCheck};
-ghost use Rattle.params.specs.Durations.{duration, sixteen, durationsOf};
+ghost use Rattle.params.specs.Durations.{sixteen, durationsOf};
 ghost use Rattle.params.specs.Built.{builtOf};
 use crate::checks::first_of;
 use refusal::Check;
@@ -128,7 +127,7 @@ impl MsarParams {
 // The first k places are 1 / (1 - P[i][i]), the others +0.
 fn stays(q: MsarParams) -> [f64; 16]
     requires { ⌜ k q ≤ 16 ⌝ }
-    ensures { λ r. ⌜ r ≡ sixteen (k q) (tab (duration q) (k q)) ⌝ }
+    ensures { λ r. ⌜ r ≡ sixteen q ⌝ }
 {
     let n = q.means_count;
     let mut values = [0.0; 16];

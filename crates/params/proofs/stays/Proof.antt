@@ -1,13 +1,12 @@
-use mathlib.Core.Path.{_≡_, _∙_}
+use mathlib.Core.Path.{_≡_}
 use Prim.Native.Nat.{_-_, _≤_}
 use native.Mathlib.Omega.{arith}
 use borrow.Author.Needs.{needs}
 use lib.ListN.{replicate}
-use Rattle.number.proofs.Table.{fillAt-none}
+use Rattle.number.proofs.Table.{fillAt-none, fill-more}
 use Rattle.number.specs.Table.{fillAt}
 use Rattle.number.specs.Number.{zero⁺}
 use Rattle.params.specs.Durations.{duration}
-use Rattle.params.proofs.Sixteen.{store, filled}
 use Rattle.params.proofs.stays.Statement.{statement}
 use Rattle.params.proofs.stays.Tie as tie
 
@@ -37,10 +36,10 @@ loop-less c = search needs
 
 loop-again : tie.Need-loop-again Inv-loop μ-loop
 unfolding duration
-loop-again c = (omega arith, store _ _ (c .before .before .loop .inv .1) (rw (c .step .ensures)) (omega arith))
+loop-again c = (omega arith, fill-more _ _ _ (c .before .before .loop .inv .1) (rw (c .step .ensures)) (omega arith))
 
 returns : tie.Need-returns Inv-loop μ-loop
-returns c = let e : c .before .loop .i ≡ c .before .before .args .q .«means_count» = omega arith in rw e at (c .before .loop .inv .1) ∙ filled _ _
+returns c = let e : c .before .loop .i ≡ c .before .before .args .q .«means_count» = omega arith in rw e at (c .before .loop .inv .1)
 
 pub stays-spec : {M : Type 1} → statement M
 stays-spec =

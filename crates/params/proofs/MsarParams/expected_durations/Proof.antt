@@ -1,7 +1,7 @@
 use mathlib.Core.Path.{sym, _∙_}
 use borrow.Author.Needs.{needs}
 use Rattle.params.specs.Durations.{durationsOf}
-use Rattle.params.proofs.Sixteen.{at-most-16}
+use Rattle.params.proofs.Within.{within}
 use Rattle.params.proofs.MsarParams.expected_durations.Statement.{statement}
 use Rattle.params.proofs.MsarParams.expected_durations.Tie as tie
 
@@ -19,7 +19,7 @@ enum-told : tie.Need-enum-told
 enum-told c = search needs
 
 stays-requires : tie.Need-stays-requires
-stays-requires c κs = at-most-16 _ (sym (c .before .before .check .ensures) ∙ c .enum-told .given .1)
+stays-requires c κs = within _ (sym (c .before .before .check .ensures) ∙ c .enum-told .given .1) .means
 
 returns-2 : tie.Need-returns-2
 unfolding durationsOf
