@@ -8,7 +8,7 @@ use native.Mathlib.Nat.{zero-add, add-zero, add-suc, mul-le-mul, mul-le-mul-righ
 use native.Mathlib.Omega.{arith}
 use lib.Arith.{digits-lt}
 use lib.ListN.{length, getD, set, take, drop, length-append, length-drop, length-take, take-append-drop, List·getD-append}
-use lib.Seq.{length-take-le, drop-cons, set-at, getD-append-add, getD-at, getD-drop, getD-take, set-append-left, take-set-lt, drop-set-lt}
+use lib.Seq.{length-take-le, drop-cons, set-at, getD-append-add, getD-at, getD-drop, getD-take, set-append-left, take-set-lt, drop-set-lt, drop-append-add, drop-drop, take-at}
 use lib.Ieee.{Float, nan}
 use Rattle.number.specs.Table.{_!_, tab, fillAt}
 
@@ -105,6 +105,47 @@ module _ (s : ℕ) (f : ℕ → Float) where
         set-append-left (take s l ++ tab f n) _ i v (omega arith)
         ∙ rw (set-append-left (take s l) (tab f n) i v (omega arith), take-set-lt s l i v h, drop-set-lt (s + n) l i v (omega arith))
 
+    -- a place inside the part
+    pub fillAt-at : {m : List Float} → m ≡ fillAt s f n l → (i : ℕ) → i < n → s ≤ length l → m ! (s + i) ≡ f i
+    unfolding fillAt
+    fillAt-at e i h k =
+        let q : length (take s l) ≡ s = length-take-le s l k in
+        let q' : length (take s l ++ tab f n) ≡ s + n = front-long k in
+        rw e
+        (List·getD-append (take s l ++ tab f n) _ nan (s + i) (omega arith)
+        ∙ rw q at (getD-append-add (take s l) (tab f n) i nan)
+        ∙ getD-tab f n i nan h)
+
+    -- what lies past the part is as it was
+    pub fillAt-rest : (u : ℕ) → s + n ≤ u → s ≤ length l → drop u (fillAt s f n l) ≡ drop u l
+    unfolding fillAt
+    fillAt-rest u h k =
+        let q : length (take s l ++ tab f n) + (u - (s + n)) ≡ u = rw (front-long k) (omega arith) in
+        let q' : s + n + (u - (s + n)) ≡ u = omega arith in
+        rw q at (drop-append-add (take s l ++ tab f n) (drop (s + n) l) (u - (s + n))) ∙ rw q' at (drop-drop (u - (s + n)) (s + n) l)
+
+-- a row of n and a row of c more
+pub tab-join : {A : Type 0} (f g : ℕ → A) (n c : ℕ) → ((i : ℕ) → i < c → g i ≡ f (n + i)) → tab f n ++ tab g c ≡ tab f (n + c)
+unfolding tab
+tab-join f g n zero h = rw (add-zero, append-nil)
+tab-join f g n (suc c) h =
+    rw (add-suc, ← append-assoc, tab-join f g n c (λ i l. h i (omega arith)), h c (omega arith))
+
+-- a part filled, and then the places that follow it: one part
+pub fillAt-join : (s : ℕ) (f g : ℕ → Float) (n c : ℕ) (l : List Float) {m : List Float} → m ≡ fillAt s f n l → s + n ≤ length l → ((i : ℕ) → i < c → g i ≡ f (n + i))
+    → fillAt (s + n) g c m ≡ fillAt s f (n + c) l
+unfolding fillAt
+fillAt-join s f g n c l e k h =
+    let q : length (take s l ++ tab f n) ≡ s + n = front-long s f n l (omega arith) in
+    let d : drop (s + n + c) (fillAt s f n l) ≡ drop (s + n + c) l = fillAt-rest s f n l (s + n + c) (omega arith) (omega arith) in
+    let a : s + n + c ≡ s + (n + c) = omega arith in
+    rw (e, d, take-at _ _ _ q, a, ← tab-join f g n c h, append-assoc (take s l) (tab f n) (tab g c))
+
+-- two lists that agree past the first n places agree whole, once these are filled
+pub fillAt-over : (f : ℕ → Float) (n : ℕ) (l l' : List Float) → drop n l ≡ drop n l' → fillAt 0 f n l ≡ fillAt 0 f n l'
+unfolding fillAt
+fillAt-over f n l l' h = rw (zero-add, h)
+
 -- ---- places of a table of at most 16 rows and columns
 
 pub cell-below : (n i j : ℕ) → n ≤ 16 → i < n → j < n → i * n + j < 256
@@ -121,3 +162,13 @@ row-before n i r h = omega (arith, mul-le-mul-right n h, suc-mul i n)
 
 pub fill-more : (f : ℕ → Float) (n : ℕ) (l : List Float) {m : List Float} → m ≡ fillAt 0 f n l → {v : Float} → v ≡ f n → n < length l → set m n v ≡ fillAt 0 f (n + 1) l
 fill-more f n l {m} e {v} d h = subst (λ (i : ℕ). set m i v ≡ fillAt 0 f (n + 1) l) (zero-add n) (fillAt-more 0 f n l e d (subst (λ (i : ℕ). i < length l) (sym (zero-add n)) h))
+
+pub fill-join : (f g : ℕ → Float) (n c : ℕ) (l : List Float) {m : List Float} → m ≡ fillAt 0 f n l → n ≤ length l → ((i : ℕ) → i < c → g i ≡ f (n + i))
+    → fillAt n g c m ≡ fillAt 0 f (n + c) l
+fill-join f g n c l {m} e k h = subst (λ (i : ℕ). fillAt i g c m ≡ fillAt 0 f (n + c) l) (zero-add n) (fillAt-join 0 f g n c l e (omega arith) h)
+
+pub fill-at : (f : ℕ → Float) (n : ℕ) (l : List Float) {m : List Float} → m ≡ fillAt 0 f n l → (i : ℕ) → i < n → m ! i ≡ f i
+fill-at f n l {m} e i h = subst (λ (j : ℕ). m ! j ≡ f i) (zero-add i) (fillAt-at 0 f n l e i h (omega arith))
+
+pub fill-long : (f : ℕ → Float) (n : ℕ) (l : List Float) {m : List Float} → m ≡ fillAt 0 f n l → n ≤ length l → length m ≡ length l
+fill-long f n l e h = fillAt-long 0 f n l e (omega arith)

@@ -4,7 +4,7 @@ use mathlib.Core.Bool.{Bool}
 use Prim.Native.Nat.{ℕ}
 use lib.Ieee.{Float}
 use lib.Ieee.Scale.{finite}
-use Rattle.number.specs.Number.{patternOf, float, magnitudeOf, maxOf}
+use Rattle.number.specs.Number.{patternOf, float, usable, magnitudeOf, maxOf}
 
 -- the same for every contract `r ≡ d`, where d is made of the arguments alone
 pub one-outcome : {A : Type 0} {d r q : A} → r ≡ d → q ≡ d → r ≡ q
@@ -21,6 +21,9 @@ magnitude-unique x r q = one-outcome
 
 pub is-finite-unique : (x : Float) (r q : Bool) → r ≡ finite x → q ≡ finite x → r ≡ q
 is-finite-unique x r q = one-outcome
+
+pub is-usable-unique : (x : Float) (r q : Bool) → r ≡ usable x → q ≡ usable x → r ≡ q
+is-usable-unique x r q = one-outcome
 
 pub max-unique : (x y r q : Float) → r ≡ maxOf x y → q ≡ maxOf x y → r ≡ q
 max-unique x y r q = one-outcome

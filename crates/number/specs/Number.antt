@@ -2,9 +2,10 @@
 -- methods of f64: magnitude and max. That a number is finite is `finite` of lib.Ieee.Scale. After IEEE 754 as lib.Ieee has it, and
 -- document 01, "The steps" and "Slips to shut out".
 use Prim.Native.Nat.{ℕ}
-use mathlib.Core.Bool.{Bool, false, cond}
+use mathlib.Core.Bool.{Bool, false, cond, _&&_}
 use lib.Dec.{leb, ltb, eqb}
 use lib.Ieee.{Float, nan, inf, fin, binary64, add, sub, mul, div, lt, eq, isNan, ofBits, toBits}
+use lib.Ieee.Scale.{finite}
 
 infixr 20 if_then_else_
 infix 50 _<?_ _≤?_ _=?_
@@ -53,6 +54,10 @@ one = float 0x3FF0_0000_0000_0000
 
 abbrev pub two : Float
 two = float 0x4000_0000_0000_0000
+
+-- finite and above zero
+unfoldable pub usable : Float → Bool
+usable x = finite x && lt zero⁺ x
 
 -- the magnitude: the sign is cleared, a zero's too
 unfoldable pub magnitudeOf : Float → Float

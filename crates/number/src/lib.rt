@@ -1,7 +1,7 @@
 // What Rust has as methods of f64, worked out by the program: bit patterns, magnitude, is finite, max.
 ghost use mathlib.Core.Path.{_≡_};
 ghost use lib.Ieee.Scale.{finite};
-ghost use Rattle.number.specs.Number.{patternOf, float, magnitudeOf, maxOf};
+ghost use Rattle.number.specs.Number.{patternOf, float, usable, magnitudeOf, maxOf};
 
 // The bit pattern of x. A NaN has one pattern here: the language leaves its bits open.
 pub fn pattern(x: f64) -> u64
@@ -42,6 +42,13 @@ pub fn is_finite(x: f64) -> bool
     ensures { λ r. ⌜ r ≡ finite x ⌝ }
 {
     x - x == 0.0
+}
+
+// Finite and above zero: what a variance, a likelihood and a scale must be.
+pub fn is_usable(x: f64) -> bool
+    ensures { λ r. ⌜ r ≡ usable x ⌝ }
+{
+    is_finite(x) & (x > 0.0)
 }
 
 // Rust's `max`, with +0 for zeros of two signs, which Rust leaves open.

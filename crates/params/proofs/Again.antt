@@ -8,7 +8,9 @@ use lib.ListN.{List·getD-append}
 use lib.Ieee.{Float, nan}
 use Rattle.number.specs.Table.{_!_, tab, fillAt}
 use Rattle.number.specs.Sums.{sumUp}
+use Rattle.number.proofs.Sums.{sum-ext}
 use Rattle.number.proofs.Table.{length-tab, getD-tab}
+use Rattle.refusal.proofs.Each.{each-ext}
 use Rattle.refusal.specs.Checks.{each}
 use Rattle.refusal.specs.declared.Check.{Check}
 use Rattle.refusal.specs.declared.Check.the-variants.{Passed}
@@ -17,16 +19,6 @@ use Rattle.params.specs.Parameters.{k}
 use Rattle.params.specs.Checks.{meanCheck, entryCheck, columnSum, columnCheck, arCheck, varianceCheck, parameterCheck}
 use Rattle.params.specs.Built.{tidied, tidy}
 use Rattle.params.proofs.Within.{within}
-
-each-ext : (c d : ℕ → Check) (n : ℕ) → ((i : ℕ) → i < n → c i ≡ d i) → each n c ≡ each n d
-unfolding each
-each-ext c d zero h = refl
-each-ext c d (suc n) h = rw (each-ext c d n (λ i l. h i (omega arith)), h n (omega arith))
-
-sum-ext : (f g : ℕ → Float) (n : ℕ) → ((i : ℕ) → i < n → f i ≡ g i) → sumUp f n ≡ sumUp g n
-unfolding sumUp
-sum-ext f g zero h = refl
-sum-ext f g (suc n) h = rw (sum-ext f g n (λ i l. h i (omega arith)), h n (omega arith))
 
 -- a place that is used is kept
 kept : (s n : ℕ) (l : List Float) (i : ℕ) → i < n → tidied s n l ! i ≡ l ! i

@@ -6,14 +6,14 @@ use Prim.Native.Nat.{ℕ, _-_}
 use lib.ListN.{replicate, length}
 use lib.Count.{trailingZeros}
 use lib.Ieee.{Float, inf, nan, lt, le, eq, ofBits, mul, div, add, sub, neg, sum, round, size, units, odd, span, climb, ofFields}
-use Rattle.number.specs.Number.{float, zero⁺, half, one, magnitudeOf}
+use Rattle.number.specs.Number.{float, zero⁺, half, one, magnitudeOf, usable}
 use Rattle.number.specs.Table.{tab, fillAt}
 use Rattle.number.specs.Sums.{sumUp}
 use Rattle.refusal.specs.Checks.{each}
 use Rattle.refusal.specs.declared.Check.the-variants.{Passed, Failed}
 use Rattle.refusal.specs.declared.Refusal.the-variants.{FewMeans, Beyond, Mean, Length, Transition, Column, NoAr, Ar, Variance}
 use Rattle.params.specs.declared.MsarParams.{MsarParams}
-use Rattle.params.specs.Checks.{isProbability, usable, columnSum, meanCheck, entryCheck, columnCheck, arCheck, varianceCheck, parameterCheck}
+use Rattle.params.specs.Checks.{isProbability, columnSum, meanCheck, entryCheck, columnCheck, arCheck, varianceCheck, parameterCheck}
 use Rattle.params.specs.Durations.{duration, durationsOf}
 
 -- an array whose first places are these, the others zero

@@ -1,4 +1,4 @@
--- what a test that the code makes says of a check
+-- what a test on a count says of it
 pub mod Tests
 -- the checks in their order, part by part
 pub mod Order

@@ -1,27 +1,18 @@
 -- Where the checks pass, the counts lie within the arrays. Assumes nothing.
 use mathlib.Core.Path.{_≡_, refl}
-use mathlib.Core.Bool.{Bool, true, false, not, _||_}
+use mathlib.Core.Bool.{not, _||_}
 use Prim.Native.Nat.{_≤_, _*_}
 use native.Mathlib.Nat.{mul-le-mul}
 use borrow.Author.Tests.{eqb-true, ltb-false, not-false}
 use Rattle.number.specs.Number.{_<?_, _=?_}
 use Rattle.refusal.specs.Checks.{_before_, _when_, each}
-use Rattle.refusal.specs.declared.Refusal.{Refusal}
 use Rattle.refusal.specs.declared.Refusal.the-variants.{FewMeans, Beyond, Length, NoAr}
-use Rattle.refusal.specs.declared.Check.{Check}
-use Rattle.refusal.specs.declared.Check.the-variants.{Passed, Failed}
+use Rattle.refusal.specs.declared.Check.the-variants.{Passed}
 use Rattle.params.specs.declared.MsarParams.{MsarParams}
 use Rattle.params.specs.Parameters.{k, p}
 use Rattle.params.specs.Checks.{meanCheck, entryCheck, columnCheck, arCheck, parameterCheck}
+use Rattle.refusal.proofs.Checks.{both, untrue}
 use Rattle.params.proofs.Tests.{at-most}
-
-both : (a : Check) {b : Check} → (a before b) ≡ Passed → (a ≡ Passed) × (b ≡ Passed)
-both Passed e = (refl, e)
-both (Failed r) e = (e, cc)
-
-untrue : (r : Refusal) (b : Bool) → (r when b) ≡ Passed → b ≡ false
-untrue r true e = cc
-untrue r false e = refl
 
 pub record Within (q : MsarParams) : Type 0 where
   pub transition : q .«transition_count» ≤ 256

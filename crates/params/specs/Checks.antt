@@ -4,7 +4,7 @@ use Prim.Native.Nat.{ℕ, _*_}
 use mathlib.Core.Bool.{Bool, not, _&&_, _||_}
 use lib.Ieee.{Float, lt, le}
 use lib.Ieee.Scale.{finite}
-use Rattle.number.specs.Number.{_<?_, _=?_, _⊕_, _⊖_, float, zero⁺, one, magnitudeOf}
+use Rattle.number.specs.Number.{_<?_, _=?_, _⊕_, _⊖_, float, zero⁺, one, usable, magnitudeOf}
 use Rattle.number.specs.Table.{_!_}
 use Rattle.number.specs.Sums.{sumUp}
 use Rattle.refusal.specs.Checks.{_before_, _when_, each}
@@ -20,10 +20,6 @@ slack = float 0x3E45_798E_E230_8C3A
 -- finite, not below 0 and not above 1 + 1e-8
 unfoldable pub isProbability : Float → Bool
 isProbability x = finite x && le zero⁺ x && le x (one ⊕ slack)
-
--- finite and above zero
-unfoldable pub usable : Float → Bool
-usable x = finite x && lt zero⁺ x
 
 -- column j sums what may come after label j
 unfoldable pub columnSum : MsarParams → ℕ → Float

@@ -6,7 +6,7 @@ ghost use Rattle.number.specs.Number.{_=?_};
 ghost use Rattle.refusal.specs.Checks.{_before_, _when_, each};
 ghost use Rattle.refusal.specs.declared.Refusal.the-variants.{Length, NoAr};
 ghost use Rattle.params.specs.Parameters.{k, p, P};
-ghost use Rattle.params.specs.Checks.{isProbability, usable, columnSum};
+ghost use Rattle.params.specs.Checks.{isProbability, columnSum};
 ghost use Rattle.params.specs.Checks.{meanCheck, entryCheck, columnCheck, arCheck, varianceCheck};
 use crate::MsarParams;
 use refusal::Check;
@@ -16,12 +16,6 @@ fn is_probability(x: f64) -> bool
     ensures { λ r. ⌜ r ≡ isProbability x ⌝ }
 {
     number::is_finite(x) & (x >= 0.0) & (x <= 1.0 + 1e-8)
-}
-
-fn is_usable(x: f64) -> bool
-    ensures { λ r. ⌜ r ≡ usable x ⌝ }
-{
-    number::is_finite(x) & (x > 0.0)
 }
 
 // One for all regimes, or one for each.
@@ -38,16 +32,6 @@ pub fn step(q: MsarParams, i: usize, j: usize) -> f64
 {
     let n = q.means_count;
     q.transition[i * n + j]
-}
-
-// The first refusal of two checks.
-pub fn first_of(first: Check, second: Check) -> Check
-    ensures { λ r. ⌜ r ≡ (first before second) ⌝ }
-{
-    match first {
-        Check::Failed(r) => Check::Failed(r),
-        Check::Passed => second,
-    }
 }
 
 // ---- checks at each place
@@ -126,7 +110,7 @@ fn each_variance(q: MsarParams) -> Check
     let n = q.variances_count;
     for i in 0..n {
         let x = q.variances[i];
-        if !is_usable(x) {
+        if !number::is_usable(x) {
             return Check::Failed(Refusal::Variance(i, x));
         }
     }
@@ -148,7 +132,7 @@ pub fn transition(q: MsarParams) -> Check
     }
     let at_entries = entries(q, square);
     let at_columns = columns(q);
-    first_of(at_entries, at_columns)
+    refusal::first_of(at_entries, at_columns)
 }
 
 pub fn ar(q: MsarParams) -> Check

@@ -5,9 +5,9 @@ ghost use Rattle.params.specs.Parameters.{k, p, switches, matchesSpec};
 ghost use Rattle.params.specs.Checks.{parameterCheck};
 ghost use Rattle.params.specs.Durations.{sixteen, durationsOf};
 ghost use Rattle.params.specs.Built.{builtOf};
-use crate::checks::first_of;
 use refusal::Check;
 use refusal::Refusal;
+use refusal::first_of;
 use spec::MsarSpec;
 
 mod checks;

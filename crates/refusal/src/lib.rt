@@ -1,6 +1,7 @@
 // Document 01's refusals by name. specs/Refusals.antt gives each its number, its place and its value.
 ghost use mathlib.Core.Path.{_≡_};
 ghost use Rattle.refusal.specs.Refusals.{said};
+ghost use Rattle.refusal.specs.Checks.{_before_};
 
 pub enum Refusal {
     FewRegimes(usize),
@@ -32,6 +33,16 @@ pub enum Refusal {
 pub enum Check {
     Passed,
     Failed(Refusal),
+}
+
+// The first refusal of two checks.
+pub fn first_of(first: Check, second: Check) -> Check
+    ensures { λ r. ⌜ r ≡ (first before second) ⌝ }
+{
+    match first {
+        Check::Failed(r) => Check::Failed(r),
+        Check::Passed => second,
+    }
 }
 
 impl Refusal {

@@ -10,3 +10,5 @@ pub mod Given
 pub mod Times
 -- P1 and P2
 pub mod Examples
+-- labels now run round
+pub mod Round

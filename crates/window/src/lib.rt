@@ -1,6 +1,6 @@
 // Windows of labels by their numbers, with a table of the powers of k; row numbers and times, kept apart.
 ghost use mathlib.Core.Path.{_≡_};
-ghost use Prim.Native.Nat.{suc, _<_, _≤_};
+ghost use Prim.Native.Nat.{ℕ, suc, _+_, _%_, _<_, _≤_};
 ghost use Rattle.window.specs.Windows.{label, labels, number, predecessor, successor};
 ghost use Rattle.window.specs.Shape.{Given, powersOf};
 ghost use Rattle.window.specs.Time.{timeOf, rowOf};
@@ -56,6 +56,17 @@ pub fn label(a: usize, l: usize, k: usize, order: usize, powers: &[usize; 9]) ->
     ensures { λ s. ⌜ s ≡ label (labels k (suc order) a) l ⌝ }
 {
     a / powers[l] % k
+}
+
+// The label now of the window that follows window a in number, where a's is s: labels now run round.
+pub fn next_label(s: usize, k: usize) -> usize
+    requires { ⌜ (s < k) × (k ≤ 16) ⌝ }
+    ensures { λ r. ⌜ ((a : ℕ) → s ≡ a % k → r ≡ (a + 1) % k) ⌝ }
+{
+    if s + 1 == k {
+        return 0;
+    }
+    s + 1
 }
 
 // The window before a, with oldest label x.

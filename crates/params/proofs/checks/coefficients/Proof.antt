@@ -7,7 +7,7 @@ use Rattle.refusal.proofs.Each.{each-none, each-more, each-found}
 use Rattle.refusal.specs.declared.Check.the-variants.{Passed}
 use Rattle.refusal.specs.Checks.{each}
 use Rattle.params.specs.Checks.{arCheck}
-use Rattle.params.proofs.Tests.{refused, passed}
+use Rattle.refusal.proofs.Checks.{refused, passed}
 use Rattle.params.proofs.checks.coefficients.Statement.{statement}
 use Rattle.params.proofs.checks.coefficients.Tie as tie
 

@@ -1,7 +1,7 @@
 use borrow.Author.Needs.{needs}
-use Rattle.params.specs.Checks.{usable}
-use Rattle.params.proofs.checks.is_usable.Statement.{statement}
-use Rattle.params.proofs.checks.is_usable.Tie as tie
+use Rattle.number.specs.Number.{usable}
+use Rattle.number.proofs.is_usable.Statement.{statement}
+use Rattle.number.proofs.is_usable.Tie as tie
 
 is-finite-requires : tie.Need-is-finite-requires
 is-finite-requires c κs = search needs

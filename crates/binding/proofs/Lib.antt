@@ -1,0 +1,2 @@
+-- what the checks that passed say
+pub mod Passed

@@ -1,0 +1,88 @@
+-- The checks of what a caller hands in: a series of T readings under a spec, the lengths of the memory that is lent, and the parameters under the spec.
+-- After document 01, "Refusals by number", 1 to 7 and 20, "Order for a model call", and "Bounds set by the port".
+use Prim.Native.Nat.{ℕ, suc, _+_, _-_, _*_, _^_}
+use mathlib.Core.Bool.{not}
+use mathlib.Core.List.{List}
+use lib.ListN.{length}
+use lib.Ieee.{Float}
+use lib.Ieee.Scale.{finite}
+use Rattle.number.specs.Number.{_<?_, _≤?_}
+use Rattle.number.specs.Table.{_!_}
+use Rattle.refusal.specs.Checks.{_before_, _when_, each}
+use Rattle.refusal.specs.declared.Check.{Check}
+use Rattle.refusal.specs.declared.Check.the-variants.{Passed, Failed}
+use Rattle.refusal.specs.declared.Refusal.the-variants.{ShortSeries, LongSeries, Reading, Memory, Shape}
+use Rattle.spec.specs.Spec.{specCheck}
+use Rattle.spec.specs.declared.MsarSpec.{MsarSpec}
+use Rattle.params.specs.declared.MsarParams.{MsarParams}
+use Rattle.params.specs.Parameters.{matchesSpec}
+use Rattle.params.specs.Checks.{parameterCheck}
+use Rattle.binding.specs.declared.Bound.{Bound}
+use Rattle.binding.specs.declared.Tables.{Tables}
+use Rattle.binding.specs.declared.Tables.the-variants.{NoTable, One, Two}
+
+-- ---- the series
+
+-- 6 at the first reading that is not finite
+unfoldable pub readingCheck : List Float → ℕ → Check
+readingCheck y i = Reading i when not (finite (y ! i))
+
+unfoldable pub seriesCheck : ℕ → List Float → Check
+seriesCheck p y =
+    ShortSeries (p + 1) when length y ≤? p
+    before LongSeries (length y) when 4096 <? length y
+    before each (length y) (readingCheck y)
+
+-- 1 to 6
+unfoldable pub boundCheck : MsarSpec → List Float → Check
+boundCheck S y = specCheck (S .«k_regimes») (S .order) before seriesCheck (S .order) y
+
+-- with it the counts that a call works with: n = T - p rows, m = k^(p + 1) windows, k^p
+abbrev pub boundAfter : Check → MsarSpec → List Float → Bound
+boundAfter Passed S y =
+    record {
+      check = Passed;
+      rows = length y - S .order;
+      windows = S .«k_regimes» ^ suc (S .order);
+      power = S .«k_regimes» ^ S .order;
+    }
+boundAfter (Failed r) S y = record { check = Failed r; rows = 0; windows = 0; power = 0 }
+
+unfoldable pub boundOf : MsarSpec → List Float → Bound
+boundOf S y = boundAfter (boundCheck S y) S y
+
+-- ---- lent memory
+
+-- 3 · n · m numbers of work memory, n · k of each table
+abbrev pub workNeed : MsarSpec → List Float → ℕ
+workNeed S y = 3 * ((length y - S .order) * S .«k_regimes» ^ suc (S .order))
+
+abbrev pub tableNeed : MsarSpec → List Float → ℕ
+tableNeed S y = (length y - S .order) * S .«k_regimes»
+
+-- 7, where so much is lent
+abbrev pub memoryCheck : ℕ → ℕ → Check
+memoryCheck lent needed = Memory needed when lent <? needed
+
+-- the tables, in the order in which they are tried
+abbrev pub tablesCheck : Tables → ℕ → Check
+tablesCheck NoTable needed = Passed
+tablesCheck (One a) needed = memoryCheck a needed
+tablesCheck (Two a b) needed = memoryCheck a needed before memoryCheck b needed
+
+-- ---- the parameters on themselves, then against the spec
+
+unfoldable pub paramsCheck : MsarSpec → MsarParams → Check
+paramsCheck S q = parameterCheck q before Shape when not (matchesSpec S q)
+
+-- ---- all of them, for a call that is lent so much work memory and such tables
+
+unfoldable pub admittedCheck : MsarSpec → List Float → MsarParams → ℕ → Tables → Check
+admittedCheck S y q work tables =
+    boundCheck S y
+    before memoryCheck work (workNeed S y)
+    before tablesCheck tables (tableNeed S y)
+    before paramsCheck S q
+
+unfoldable pub admitted : MsarSpec → List Float → MsarParams → ℕ → Tables → Bound
+admitted S y q work tables = boundAfter (admittedCheck S y q work tables) S y

@@ -1,0 +1,37 @@
+-- The tables give the definition: what is weighed by them is prediction × density, for each window and in sum. Assumes nothing.
+use Prim.Native.Nat.{ℕ, suc, _<_}
+use mathlib.Core.Path.{_≡_}
+use mathlib.Core.List.{List}
+use native.Mathlib.Nat.{zero-add}
+use native.Mathlib.Omega.{arith}
+use lib.Ieee.{Float}
+use Rattle.number.specs.Number.{_⊗_}
+use Rattle.number.specs.Sums.{sumUp}
+use Rattle.number.specs.Table.{_!_, fillAt}
+use Rattle.number.proofs.Sums.{sum-ext}
+use Rattle.number.proofs.Table.{fillAt-at}
+use Rattle.window.specs.Windows.{labels}
+use Rattle.window.specs.declared.Time.{Time}
+use Rattle.params.specs.declared.MsarParams.{MsarParams}
+use Rattle.params.specs.Parameters.{k, p}
+use Rattle.density.specs.Density.{density, normal}
+use Rattle.density.specs.Steps.{deviationAt, logAt, meanAt, weightAt}
+
+module _ (q : MsarParams) (y : List Float) (t : Time) (predicted means deviations logarithms : List Float) where
+  -- window a, whose places in the tables are the definition's
+  pub weight-is : (a : ℕ) → means ! a ≡ meanAt q y t (p q) a → deviations ! a ≡ deviationAt q a → logarithms ! a ≡ logAt q a
+      → weightAt (y ! (t .0)) means deviations logarithms predicted a ≡ predicted ! a ⊗ density q y t (labels (k q) (suc (p q)) a)
+  unfolding weightAt density normal meanAt deviationAt logAt labels
+  weight-is a e e' e'' = rw (e, e', e'')
+
+  -- tables of m windows, as `means_row`, `deviations` and `logarithms` leave them
+  module _ (m : ℕ) (l l' l'' : List Float) (e : means ≡ fillAt 0 (meanAt q y t (p q)) m l) (e' : deviations ≡ fillAt 0 (deviationAt q) m l')
+      (e'' : logarithms ≡ fillAt 0 (logAt q) m l'') where
+    pub weight-of-tables : (a : ℕ) → a < m → weightAt (y ! (t .0)) means deviations logarithms predicted a ≡ predicted ! a ⊗ density q y t (labels (k q) (suc (p q)) a)
+    weight-of-tables a h = weight-is a (at _ l e) (at _ l' e') (at _ l'' e'')
+      where
+        at : (f : ℕ → Float) (d : List Float) {r : List Float} → r ≡ fillAt 0 f m d → r ! a ≡ f a
+        at f d e = rw zero-add at (fillAt-at 0 f m d e a h (omega arith))
+
+    pub total-of-tables : sumUp (weightAt (y ! (t .0)) means deviations logarithms predicted) m ≡ sumUp (λ a. predicted ! a ⊗ density q y t (labels (k q) (suc (p q)) a)) m
+    total-of-tables = sum-ext _ _ m weight-of-tables

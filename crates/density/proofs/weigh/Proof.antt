@@ -1,0 +1,101 @@
+use Prim.Native.Nat.{_-_, _≤_}
+use mathlib.Core.Path.{_≡_}
+use native.Mathlib.Omega.{arith}
+use borrow.Author.Needs.{needs}
+use Rattle.number.specs.Sums.{sumUp}
+use Rattle.number.specs.Table.{fillAt}
+use Rattle.number.proofs.Sums.{sum-none, sum-more}
+use Rattle.number.proofs.Table.{fillAt-none, fill-more}
+use Rattle.density.specs.Steps.{weightAt}
+use Rattle.density.proofs.weigh.Statement.{statement}
+use Rattle.density.proofs.weigh.Tie as tie
+
+abbrev Inv-loop : tie.InvT-loop
+Inv-loop reading means deviations logarithms predicted m weights₀ total₀ a₀ weights total a =
+    (a ≤ m) × (weights ≡ fillAt 0 (weightAt reading means deviations logarithms predicted) a weights₀) × (total ≡ sumUp (weightAt reading means deviations logarithms predicted) a)
+
+abbrev μ-loop : tie.MeasureT-loop
+μ-loop reading means deviations logarithms predicted m weights₀ total₀ a₀ weights total a = m - a
+
+loop-holds : tie.Need-loop-holds Inv-loop μ-loop
+loop-holds c = (omega arith, fillAt-none 0 _ _, sum-none _)
+
+mul-z : tie.Need-mul-z Inv-loop μ-loop
+mul-z c = search needs
+
+element-copy-out-z : tie.Need-element-copy-out-z Inv-loop μ-loop
+element-copy-out-z c = search needs
+
+mul-z-2 : tie.Need-mul-z-2 Inv-loop μ-loop
+mul-z-2 c = search needs
+
+element-copy-out-z-2 : tie.Need-element-copy-out-z-2 Inv-loop μ-loop
+element-copy-out-z-2 c = search needs
+
+mul-w : tie.Need-mul-w Inv-loop μ-loop
+mul-w c = search needs
+
+element-copy-out-w : tie.Need-element-copy-out-w Inv-loop μ-loop
+element-copy-out-w c = search needs
+
+lnpdf-requires : tie.Need-lnpdf-requires Inv-loop μ-loop
+lnpdf-requires c κs = search needs
+
+mul-exp : tie.Need-mul-exp Inv-loop μ-loop
+mul-exp c = search needs
+
+element-copy-out-exp : tie.Need-element-copy-out-exp Inv-loop μ-loop
+element-copy-out-exp c = search needs
+
+exp-requires : tie.Need-exp-requires Inv-loop μ-loop
+exp-requires c κs = search needs
+
+mul-weights : tie.Need-mul-weights Inv-loop μ-loop
+mul-weights c = search needs
+
+element-write-weights : tie.Need-element-write-weights Inv-loop μ-loop
+element-write-weights c = search needs
+
+add-a : tie.Need-add-a Inv-loop μ-loop
+add-a c = search needs
+
+loop-less : tie.Need-loop-less Inv-loop μ-loop
+loop-less c = search needs
+
+loop-again : tie.Need-loop-again Inv-loop μ-loop
+unfolding weightAt
+loop-again c =
+    let inv = c .before .before .before .before .before .before .before .loop .inv in
+    let e = c .exp .ensures in
+    let e' = c .before .before .lnpdf .ensures in
+    (omega arith, fill-more _ _ _ (inv .1) (rw (e, e')) (omega arith), rw (e, e') (sum-more _ _ (inv .2)))
+
+returns : tie.Need-returns Inv-loop μ-loop
+returns c =
+    let inv = c .before .loop .inv in
+    let e : c .before .loop .a ≡ c .before .before .args .m = omega arith in
+    (rw e at (inv .1), rw e at (inv .2))
+
+pub weigh-spec : {M : Type 1} → statement M
+weigh-spec =
+    tie.close
+    (tie.spec
+    Inv-loop
+    μ-loop
+    loop-holds
+    mul-z
+    element-copy-out-z
+    mul-z-2
+    element-copy-out-z-2
+    mul-w
+    element-copy-out-w
+    lnpdf-requires
+    mul-exp
+    element-copy-out-exp
+    exp-requires
+    mul-weights
+    element-write-weights
+    add-a
+    loop-less
+    loop-again
+    returns)

@@ -1,0 +1,51 @@
+-- What the steps of the code give: tables by window number, made once for a call or a row. The proofs show that they are the density's.
+use Prim.Native.Nat.{ℕ, suc, _+_, _*_, _/_, _%_}
+use mathlib.Core.Path.{_≡_}
+use mathlib.Core.List.{List}
+use lib.ListN.{replicate}
+use lib.Ieee.{Float}
+use Rattle.number.specs.Number.{_⊕_, _⊖_, _⊗_, _⊘_, zero⁺}
+use Rattle.number.specs.Table.{_!_, fillAt}
+use Rattle.root.specs.Root.{rootOf}
+use Rattle.log.specs.Log.{logOf}
+use Rattle.exp.specs.Exp.{expOf}
+use Rattle.normal.specs.Normal.{lnpdfOf}
+use Rattle.window.specs.Windows.{labels}
+use Rattle.window.specs.declared.Time.{Time}
+use Rattle.params.specs.declared.MsarParams.{MsarParams}
+use Rattle.params.specs.Parameters.{k, p, φ, variance}
+use Rattle.density.specs.Density.{meanTo}
+
+-- the standard deviation under window a, and its logarithm: its label now is a % k
+unfoldable pub deviationAt : MsarParams → ℕ → Float
+deviationAt q a = rootOf (variance q (a % k q))
+
+unfoldable pub logAt : MsarParams → ℕ → Float
+logAt q a = logOf (deviationAt q a)
+
+-- the mean of window a with its first l lags
+unfoldable pub meanAt : MsarParams → List Float → Time → ℕ → ℕ → Float
+meanAt q y t l a = meanTo q y t (labels (k q) (suc (p q)) a) l
+
+-- prediction × density, by the tables
+unfoldable pub weightAt : Float → List Float → List Float → List Float → List Float → ℕ → Float
+weightAt reading means deviations logarithms predicted a =
+    predicted ! a ⊗ expOf (lnpdfOf ((reading ⊖ means ! a) ⊘ deviations ! a) ⊖ logarithms ! a)
+
+-- φ by lag and label: place l · k + s is φ_(l+1) of label s
+unfoldable pub phiAt : MsarParams → ℕ → Float
+phiAt q e = φ q (e % k q) (suc (e / k q))
+
+abbrev pub phisOf : MsarParams → List Float
+phisOf q = fillAt 0 (phiAt q) (p q * k q) (replicate 112 zero⁺)
+
+-- one lag more, for the windows of one label more: window c goes on from c % step, and its new oldest label is c / step
+unfoldable pub laggedAt : List Float → List Float → List Float → Float → ℕ → ℕ → ℕ → ℕ → Float
+laggedAt row phis means reading from k step c = row ! (c % step) ⊕ phis ! (from + c % k) ⊗ (reading ⊖ means ! (c / step))
+
+-- parameters whose parts are lent one by one
+pub record Parts (q : MsarParams) (count order : ℕ) (means phis : List Float) : Type 0 where
+  pub count-is : k q ≡ count
+  pub order-is : p q ≡ order
+  pub means-are : q .means ≡ means
+  pub phis-are : phisOf q ≡ phis

@@ -1,0 +1,216 @@
+// The filter over the rows of a series, in lent memory. What does not change along the series is made once, as tables.
+ghost use mathlib.Core.Path.{_≡_};
+ghost use mathlib.Core.List.{List};
+ghost use Prim.Native.Nat.{ℕ, suc, _+_, _*_, _^_, _<_, _≤_};
+ghost use lib.ListN.{length, drop, replicate};
+ghost use lib.Ieee.{Float};
+ghost use Rattle.number.specs.Number.{_⊘_, zero⁺};
+ghost use Rattle.number.specs.Table.{_!_, fillAt};
+ghost use Rattle.refusal.specs.Checks.{each};
+ghost use Rattle.refusal.specs.declared.Check.the-variants.{Passed, Failed};
+ghost use Rattle.window.specs.Shape.{Shape, powersOf};
+ghost use Rattle.params.specs.declared.MsarParams.{MsarParams};
+ghost use Rattle.params.specs.Parameters.{k, p};
+ghost use Rattle.prediction.specs.Steps.{laterAt, stepAt};
+ghost use Rattle.filter.specs.Filter.{likelihoodCheck, loglikTo, rowCount, startShares, answerAfter, answerOf};
+ghost use Rattle.filter.specs.Steps.{windowsOf, Scales, Weighed, Held};
+use params::MsarParams;
+use refusal::Check;
+use refusal::Refusal;
+use window::Row;
+
+// The log-likelihood, or the refusal that stands in its place.
+pub struct Answer {
+    pub check: Check,
+    pub loglik: f64,
+}
+
+// A refusal, with no log-likelihood.
+pub fn refused(r: Refusal) -> Answer
+    ensures { λ a. ⌜ ((loglik : Float) → a ≡ answerAfter (Failed r) loglik) ⌝ }
+{
+    Answer {
+        check: Check::Failed(r),
+        loglik: 0.0,
+    }
+}
+
+// The weights of the windows at row i, and the likelihood of its reading. The tables are lent one by one, as they are
+// the same for every row.
+fn weigh_row(
+    means: &[f64; 16],
+    phis: &[f64; 112],
+    deviations: &[f64; 256],
+    logarithms: &[f64; 256],
+    predicted: &[f64; 256],
+    k: usize,
+    order: usize,
+    m: usize,
+    y: &[f64],
+    row: Row,
+    centres: &mut [f64; 256],
+    weights: &mut [f64; 256],
+) -> f64
+    requires { ⌜ Shape k order ⌝ }
+    requires { ⌜ (m ≡ k ^ suc order) × (order + row .0 < length (now y)) × (length (now y) ≤ 4096) × (length (now centres) ≡ 256) × (length (now weights) ≡ 256) ⌝ }
+    ensures { λ r. ⌜ ((q : MsarParams) → Scales q k order m (now (means .entry)) (now (phis .entry)) (now (deviations .entry)) (now (logarithms .entry)) → Weighed q (now (y .entry)) m (row .0) (now (predicted .entry)) (now (weights .exit)) r × (length (now (centres .exit)) ≡ 256) × (length (now (weights .exit)) ≡ 256)) ⌝ }
+{
+    let t = window::time_of(row, order);
+    let at = t.0;
+    density::means_row(means, phis, k, order, y, t, centres);
+    density::weigh(
+        y[at],
+        centres,
+        deviations,
+        logarithms,
+        predicted,
+        m,
+        weights,
+    )
+}
+
+// Each of the first m places divided by the likelihood.
+fn divide(weights: &mut [f64; 256], likelihood: f64, m: usize)
+    requires { ⌜ (m ≤ 256) × (length (now weights) ≡ 256) ⌝ }
+    ensures { λ _. ⌜ now (weights .exit) ≡ fillAt 0 (λ a. now (weights .entry) ! a ⊘ likelihood) m (now (weights .entry)) ⌝ }
+{
+    for a in 0..m {
+        weights[a] = weights[a] / likelihood;
+    }
+}
+
+// Predicted and filtered weights of row i, to their places in work memory.
+fn keep(predicted: &[f64; 256], filtered: &[f64; 256], m: usize, i: usize, work: &mut [f64])
+    requires { ⌜ (m ≤ 256) × (i < 4096) × (2 * i * m + m + m ≤ length (now work)) ⌝ }
+    ensures { λ _. ⌜ now (work .exit) ≡ fillAt (2 * i * m + m) (λ a. now (filtered .entry) ! a) m (fillAt (2 * i * m) (λ a. now (predicted .entry) ! a) m (now (work .entry))) ⌝ }
+{
+    let at = 2 * i * m;
+    rows::store(predicted, m, work, at);
+    rows::store(filtered, m, work, at + m);
+}
+
+// Row i is done: its weights are divided, kept with its prediction, and give the prediction of the next row.
+fn advance(
+    steps: &[f64; 256],
+    likelihood: f64,
+    k: usize,
+    power: usize,
+    m: usize,
+    i: usize,
+    predicted: &mut [f64; 256],
+    weights: &mut [f64; 256],
+    work: &mut [f64],
+)
+    requires { ⌜ (0 < k) × (k * power ≡ m) × (m ≤ 256) × (i < 4096) × (length (now predicted) ≡ 256) × (length (now weights) ≡ 256) × (2 * i * m + m + m ≤ length (now work)) ⌝ }
+    ensures weights { λ _. ⌜ now (weights .exit) ≡ fillAt 0 (λ a. now (weights .entry) ! a ⊘ likelihood) m (now (weights .entry)) ⌝ }
+    ensures predicted { λ _. ⌜ now (predicted .exit) ≡ fillAt 0 (laterAt k power (now (steps .entry)) (now (weights .exit))) m (now (predicted .entry)) ⌝ }
+    ensures work { λ _. ⌜ now (work .exit) ≡ fillAt (2 * i * m + m) (λ a. now (weights .exit) ! a) m (fillAt (2 * i * m) (λ a. now (predicted .entry) ! a) m (now (work .entry))) ⌝ }
+{
+    divide(weights, likelihood, m);
+    keep(predicted, weights, m, i, work);
+    prediction::later_row(steps, weights, k, power, predicted);
+}
+
+// The rows, one after another: 23 at the first whose likelihood is not finite or not above zero.
+fn each_row(
+    q: MsarParams,
+    shares: &[f64; 16],
+    powers: &[usize; 9],
+    phis: &[f64; 112],
+    deviations: &[f64; 256],
+    logarithms: &[f64; 256],
+    steps: &[f64; 256],
+    power: usize,
+    m: usize,
+    y: &[f64],
+    n: usize,
+    work: &mut [f64],
+) -> Answer
+    requires { ⌜ Shape (k q) (p q) ⌝ }
+    requires { ⌜ (m ≡ windowsOf q) × (k q * power ≡ m) × (power ≡ k q ^ p q) × (p q + n ≡ length (now y)) × (length (now y) ≤ 4096) × (2 * n * m ≤ length (now work)) ⌝ }
+    requires { ⌜ (now powers ≡ powersOf (k q) (p q)) × (now steps ≡ fillAt 0 (stepAt q) m (replicate 256 zero⁺)) ⌝ }
+    requires { ⌜ Scales q (k q) (p q) m (q .means) (now phis) (now deviations) (now logarithms) ⌝ }
+    ensures answer { λ r. ⌜ r ≡ answerAfter (each n (likelihoodCheck q (now (y .entry)) (now (shares .entry)))) (loglikTo q (now (y .entry)) (now (shares .entry)) n) ⌝ }
+    ensures same { λ _. ⌜ (length (now (work .exit)) ≡ length (now (work .entry))) × (drop (2 * n * m) (now (work .exit)) ≡ drop (2 * n * m) (now (work .entry))) ⌝ }
+    ensures rows { λ r. ⌜ (r .check ≡ Passed → Held q (now (y .entry)) (now (shares .entry)) m n (now (work .exit))) ⌝ }
+{
+    let mut predicted = [0.0; 256];
+    prediction::first_row(q, shares, powers, m, &mut predicted);
+    let mut means = [0.0; 256];
+    let mut weights = [0.0; 256];
+    let mut loglik = 0.0;
+    let mut i = 0;
+    while i < n {
+        let likelihood = weigh_row(
+            &q.means,
+            phis,
+            deviations,
+            logarithms,
+            &predicted,
+            q.means_count,
+            q.order,
+            m,
+            y,
+            Row(i),
+            &mut means,
+            &mut weights,
+        );
+        if !number::is_usable(likelihood) {
+            return refused(Refusal::Likelihood(i));
+        }
+        loglik = loglik + log::log(likelihood);
+        advance(
+            steps,
+            likelihood,
+            q.means_count,
+            power,
+            m,
+            i,
+            &mut predicted,
+            &mut weights,
+            work,
+        );
+        i += 1;
+    }
+    Answer {
+        check: Check::Passed,
+        loglik,
+    }
+}
+
+// The filter of a series, from the stationary shares: 21 or 22 of these, then the rows. n is the count of rows, m that
+// of windows, power k^order.
+pub fn run(q: MsarParams, power: usize, m: usize, y: &[f64], n: usize, work: &mut [f64]) -> Answer
+    requires { ⌜ Shape (k q) (p q) ⌝ }
+    requires { ⌜ (m ≡ windowsOf q) × (power ≡ k q ^ p q) × (p q + n ≡ length (now y)) × (length (now y) ≤ 4096) × (2 * n * m ≤ length (now work)) ⌝ }
+    ensures answer { λ r. ⌜ r ≡ answerOf q (now (y .entry)) ⌝ }
+    ensures same { λ _. ⌜ (length (now (work .exit)) ≡ length (now (work .entry))) × (drop (2 * n * m) (now (work .exit)) ≡ drop (2 * n * m) (now (work .entry))) ⌝ }
+    ensures rows { λ r. ⌜ (r .check ≡ Passed → Held q (now (y .entry)) (startShares q) m n (now (work .exit))) ⌝ }
+{
+    let transition = q.transition;
+    let shares = stationary::solved_shares(transition, q.means_count);
+    let check = shares.check;
+    if let Check::Failed(r) = check {
+        return refused(r);
+    }
+    let start = shares.values;
+    let powers = window::powers(q.means_count, q.order);
+    let phis = density::phis(q);
+    let deviations = density::deviations(q, m);
+    let logarithms = density::logarithms(&deviations, q.means_count, m);
+    let steps = prediction::steps(q, m);
+    each_row(
+        q,
+        &start,
+        &powers,
+        &phis,
+        &deviations,
+        &logarithms,
+        &steps,
+        power,
+        m,
+        y,
+        n,
+        work,
+    )
+}

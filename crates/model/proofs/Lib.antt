@@ -1,0 +1,8 @@
+-- what a run leaves
+pub mod Runs
+-- a call that was admitted
+pub mod Admitted
+-- the outcomes of the calls
+pub mod Outcomes
+-- no second outcome satisfies a contract
+pub mod Unique

@@ -1,0 +1,8 @@
+-- places of the code lie within its arrays
+mod Places
+-- the labels of a window, and one turn more of a loop
+mod Turns
+-- what the rows hold
+pub mod Predicted
+-- P5 and P7
+pub mod Examples

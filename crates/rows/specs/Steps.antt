@@ -1,0 +1,17 @@
+-- What the steps of the code give, by window number: the windows with label i now are i, i + k, i + 2·k, .. The proofs show that these sums are the
+-- probabilities of the labels.
+use Prim.Native.Nat.{ℕ, _+_, _*_, _/_, _%_}
+use mathlib.Core.List.{List}
+use lib.ListN.{drop}
+use lib.Ieee.{Float}
+use Rattle.number.specs.Sums.{sumUp}
+use Rattle.number.specs.Table.{_!_}
+use Rattle.rows.specs.Memory.{filteredFrom}
+
+-- power is k^p, the count of windows with one label now
+unfoldable pub labelSum : ℕ → ℕ → List Float → ℕ → Float
+labelSum k power row i = sumUp (λ j. row ! (i + j * k)) power
+
+-- place e of the results of the rows that stand in work memory
+unfoldable pub labelSumAt : ℕ → ℕ → ℕ → List Float → ℕ → Float
+labelSumAt k power m work e = labelSum k power (drop (filteredFrom m (e / k)) work) (e % k)

@@ -1,0 +1,59 @@
+// Rows of window weights in lent memory: storing them, clearing them, and the probabilities of the labels.
+ghost use mathlib.Core.Path.{_≡_};
+ghost use Prim.Native.Nat.{ℕ, _+_, _*_, _<_, _≤_};
+ghost use lib.ListN.{length, drop};
+ghost use Rattle.number.specs.Number.{zero⁺};
+ghost use Rattle.number.specs.Table.{_!_, fillAt};
+ghost use Rattle.rows.specs.Steps.{labelSum, labelSumAt};
+
+// The first m places of a row, to the places from `at` on.
+pub fn store(row: &[f64; 256], m: usize, work: &mut [f64], at: usize)
+    requires { ⌜ (m ≤ 256) × (at + m ≤ length (now work)) ⌝ }
+    ensures { λ _. ⌜ now (work .exit) ≡ fillAt at (λ a. now (row .entry) ! a) m (now (work .entry)) ⌝ }
+{
+    for a in 0..m {
+        work[at + a] = row[a];
+    }
+}
+
+// +0 in the first n places.
+pub fn clear(work: &mut [f64], n: usize)
+    requires { ⌜ n ≤ length (now work) ⌝ }
+    ensures { λ _. ⌜ now (work .exit) ≡ fillAt 0 (λ _. zero⁺) n (now (work .entry)) ⌝ }
+{
+    for i in 0..n {
+        work[i] = 0.0;
+    }
+}
+
+// The probability of label i now, of the row that stands from `from` on; power is k^order.
+fn label_sum(work: &[f64], from: usize, i: usize, k: usize, power: usize) -> f64
+    requires { ⌜ (i < k) × (from + power * k ≤ length (now work)) ⌝ }
+    ensures { λ r. ⌜ r ≡ labelSum k power (drop from (now (work .entry))) i ⌝ }
+{
+    let mut acc = 0.0;
+    for j in 0..power {
+        acc = acc + work[from + i + j * k];
+    }
+    acc
+}
+
+// The probabilities of the k labels of one row, to the places of the table from `at` on.
+fn label_sums(work: &[f64], from: usize, k: usize, power: usize, table: &mut [f64], at: usize)
+    requires { ⌜ (from + power * k ≤ length (now work)) × (at + k ≤ length (now table)) ⌝ }
+    ensures { λ _. ⌜ now (table .exit) ≡ fillAt at (labelSum k power (drop from (now (work .entry)))) k (now (table .entry)) ⌝ }
+{
+    for i in 0..k {
+        table[at + i] = label_sum(work, from, i, k, power);
+    }
+}
+
+// The table of results: the probabilities of the labels of n rows of m windows.
+pub fn tabulate(work: &[f64], k: usize, power: usize, m: usize, n: usize, table: &mut [f64])
+    requires { ⌜ (0 < k) × (power * k ≡ m) × (2 * n * m ≤ length (now work)) × (n * k ≤ length (now table)) × (n ≤ 4096) ⌝ }
+    ensures { λ _. ⌜ now (table .exit) ≡ fillAt 0 (labelSumAt k power m (now (work .entry))) (n * k) (now (table .entry)) ⌝ }
+{
+    for i in 0..n {
+        label_sums(work, 2 * i * m + m, k, power, table, i * k);
+    }
+}

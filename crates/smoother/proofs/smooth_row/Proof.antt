@@ -1,0 +1,54 @@
+use Prim.Native.Nat.{_+_, _*_}
+use mathlib.Core.Path.{_∙_}
+use native.Mathlib.Omega.{arith}
+use borrow.Author.Needs.{needs}
+use lib.ListN.{drop}
+use Rattle.number.proofs.Table.{fillAt-long}
+use Rattle.smoother.specs.Steps.{sharedSum}
+use Rattle.smoother.proofs.Scaled.{row-done}
+use Rattle.smoother.proofs.Common.{sum-in-row, sums-few}
+use Rattle.smoother.proofs.smooth_row.Statement.{statement}
+use Rattle.smoother.proofs.smooth_row.Tie as tie
+
+mul-m : tie.Need-mul-m
+mul-m c = search needs
+
+mul-sums-after : tie.Need-mul-sums-after
+mul-sums-after c = search needs
+
+add-sums-after : tie.Need-add-sums-after
+add-sums-after c = search needs
+
+add-sums-after-2 : tie.Need-add-sums-after-2
+add-sums-after-2 c = search needs
+
+sums-after-requires : tie.Need-sums-after-requires
+sums-after-requires c κs = let h = c .before .before .before .pre in let w = h .1 in ((h .0 .0, h .0 .1, omega (arith, sums-few w (h .0 .0) (h .0 .2), h .0), h .0 .5), λ d l. (omega (arith, sum-in-row w (h .0 .2) d l, h .0), omega (arith, sum-in-row w (h .0 .2) d l, h .0)))
+
+scale-row-requires : tie.Need-scale-row-requires
+scale-row-requires c κs = let h = c .before .before .before .before .before .before .pre in let w = h .1 in (w .some, omega (arith, sums-few w (h .0 .0) (h .0 .2), h .0), omega (arith, w .whole, h .0))
+
+same-length : tie.Need-same-length
+same-length c = search needs
+
+returns : tie.Need-returns
+returns c =
+    let a = c .before .before .before .before .before .before .before .before .before .args in
+    let h = c .before .before .before .before .before .before .before .before .before .pre in
+    let w = h .1 in
+    let e = c .before .before .before .before .before .sums-after .ensures in
+    let f = sharedSum (a .k) (a .shared .stride) (a .transition .now) (drop (a .at + 2 * (a .power * a .k)) (a .work .now)) (drop (a .at + a .power * a .k) (a .work .now)) in
+    (fillAt-long 0 f (a .shared .count) (a .sums .now) e (omega (arith, sums-few w (h .0 .0) (h .0 .2), h .0)) ∙ h .0 .5, row-done w (a .transition .now) (a .at) (a .work .now) (a .sums .now) e (c .before .before .scale-row .ensures))
+
+pub smooth-row-spec : {M : Type 1} → statement M
+smooth-row-spec =
+    tie.close
+    (tie.spec
+    mul-m
+    mul-sums-after
+    add-sums-after
+    add-sums-after-2
+    sums-after-requires
+    scale-row-requires
+    same-length
+    returns)

@@ -1,0 +1,3 @@
+pub mod Smoother
+pub mod InMemory
+pub mod Steps
