@@ -1,4 +1,6 @@
 // Numbers as lines of text, for the programs of the gate: 16 hexadecimal digits and a byte that ends them.
+ghost use Prim.Native.Nat.{_≤_};
+ghost use lib.ListN.{length};
 
 pub enum Line {
     Pattern(u64),
@@ -41,6 +43,22 @@ pub fn read() -> Line {
         return Line::End;
     }
     pattern(&text)
+}
+
+// Puts the next `count` numbers of the input into `out`, up to the first line that has none, and says how many it put.
+pub fn numbers(out: &mut [f64], count: usize) -> usize
+    requires { ⌜ count ≤ length (now out) ⌝ }
+    ensures { λ r. ⌜ r ≤ count ⌝ }
+{
+    let mut i = 0;
+    while i < count {
+        let Line::Pattern(n) = read() else {
+            return i;
+        };
+        out[i] = number::of_pattern(n);
+        i += 1;
+    }
+    i
 }
 
 // Writes 16 digits and the byte that ends them, and says whether that went through.

@@ -4,26 +4,9 @@
 // Standard output: for each system a line `solved` and n lines with the unknowns, or `singular`, or `too large`, every NaN as
 // 7ff8000000000000; or `bad line N`, which ends the run.
 ghost use Prim.Native.Nat.{_≤_, _<_, _^_};
-ghost use lib.ListN.{length};
 use hex::Line;
 use linsolve::Outcome;
 use linsolve::Solution;
-
-// Puts the next `count` numbers of the input into `out`, up to the first line that has none, and says how many it put.
-fn numbers(out: &mut [f64], count: usize) -> usize
-    requires { ⌜ count ≤ length (now out) ⌝ }
-    ensures { λ r. ⌜ r ≤ count ⌝ }
-{
-    let mut i = 0;
-    while i < count {
-        let Line::Pattern(n) = hex::read() else {
-            return i;
-        };
-        out[i] = number::of_pattern(n);
-        i += 1;
-    }
-    i
-}
 
 // Writes the first n unknowns, and says whether that went through.
 fn unknowns(x: &[f64; 16], n: usize) -> bool
@@ -89,12 +72,12 @@ fn numbered(n: usize, before: u64) -> u64
 {
     let mut a = [0.0; 256];
     let mut b = [0.0; 16];
-    let in_table = numbers(&mut a, cells(n));
+    let in_table = hex::numbers(&mut a, cells(n));
     if in_table < cells(n) {
         hex::bad_line(before + in_table as u64 + 1);
         return 0;
     }
-    let in_side = numbers(&mut b, n);
+    let in_side = hex::numbers(&mut b, n);
     let after = before + (in_table + in_side) as u64;
     if in_side < n {
         hex::bad_line(after + 1);

@@ -1,17 +1,14 @@
--- `systems::numbers` meets its contract: the stores keep the length of `out`, which is at least `count`. The measure is the
--- count of numbers to come.
-use mathlib.Core.Path.{_≡_}
+-- `replay::wholes` is safe and ends: the index stays below 14. The measure is the count of numbers to come.
 use Prim.Native.Nat.{_≤_, _-_}
 use borrow.Author.Needs.{needs}
-use lib.ListN.{length}
-use Rattle.systems.proofs.numbers.Statement.{statement}
-use Rattle.systems.proofs.numbers.Tie as tie
+use Rattle.replay.proofs.wholes.Statement.{statement}
+use Rattle.replay.proofs.wholes.Tie as tie
 
 abbrev Inv-loop : tie.InvT-loop
-Inv-loop out₀ count i₀ out i = (i ≤ count) × (length out ≡ length out₀)
+Inv-loop out₀ i₀ out i = i ≤ 14
 
 abbrev μ-loop : tie.MeasureT-loop
-μ-loop out₀ count i₀ out i = count - i
+μ-loop out₀ i₀ out i = 14 - i
 
 loop-holds : tie.Need-loop-holds Inv-loop μ-loop
 loop-holds c = search needs
@@ -22,20 +19,14 @@ read-requires c κs = search needs
 enum-known-n : tie.Need-enum-known-n Inv-loop μ-loop
 enum-known-n c = search needs
 
-same-length : tie.Need-same-length Inv-loop μ-loop
-same-length c = search needs
-
 returns : tie.Need-returns Inv-loop μ-loop
 returns c = search needs
-
-of-pattern-requires : tie.Need-of-pattern-requires Inv-loop μ-loop
-of-pattern-requires c κs = search needs
 
 mul-out : tie.Need-mul-out Inv-loop μ-loop
 mul-out c = search needs
 
-slice-write-out : tie.Need-slice-write-out Inv-loop μ-loop
-slice-write-out c = search needs
+element-write-out : tie.Need-element-write-out Inv-loop μ-loop
+element-write-out c = search needs
 
 add-i : tie.Need-add-i Inv-loop μ-loop
 add-i c = search needs
@@ -46,14 +37,11 @@ loop-less c = search needs
 loop-again : tie.Need-loop-again Inv-loop μ-loop
 loop-again c = search needs
 
-same-length-2 : tie.Need-same-length-2 Inv-loop μ-loop
-same-length-2 c = search needs
-
 returns-2 : tie.Need-returns-2 Inv-loop μ-loop
 returns-2 c = search needs
 
-pub numbers-spec : {M : Type 1} → statement M
-numbers-spec =
+pub wholes-spec : {M : Type 1} → statement M
+wholes-spec =
     tie.close
     (tie.spec
     Inv-loop
@@ -61,13 +49,10 @@ numbers-spec =
     loop-holds
     read-requires
     enum-known-n
-    same-length
     returns
-    of-pattern-requires
     mul-out
-    slice-write-out
+    element-write-out
     add-i
     loop-less
     loop-again
-    same-length-2
     returns-2)

@@ -1,0 +1,76 @@
+#!/usr/bin/env bash
+# Builds the oracle around the Rust's four sources, twice.
+# oracle/model/build.sh SOURCES FOLDER
+# SOURCES: the folder with model.rs, params.rs, spec.rs, linsolve.rs; they are never copied into the repository.
+# FOLDER: a scratch folder outside the repository. It gets
+#   routed/oracle     root, logarithm and exponential are oracle/shim/fm.rs, and the places of 22 and 23 are written down
+#   untouched/oracle  the sources byte for byte, but for lines at the end of model.rs
+set -euo pipefail
+
+stop() {
+    echo "$0: $1" >&2
+    exit 2
+}
+[[ $# -eq 2 ]] || stop "usage: $0 SOURCES FOLDER"
+sources=$1
+here=$(cd "$(dirname "${BASH_SOURCE[0]}")" && pwd)
+top=$(cd "$here/../.." && pwd)
+folder=$(realpath -m "$2")
+[[ $folder/ != "$top"/* ]] || stop "$2 is inside the repository"
+for name in model params spec linsolve; do
+    [[ -f $sources/$name.rs ]] || stop "no $name.rs in $sources"
+done
+command -v rustc >/dev/null || stop "rustc is missing"
+
+# Ends the build unless the text stands in that many lines of the file: each edit hits what it was written for.
+stands() { # FILE COUNT TEXT
+    local found
+    found=$(grep -cF -- "$3" "$1" || true)
+    [[ $found == "$2" ]] || stop "'$3' stands in $found lines of $1, not in $2"
+}
+
+# Sends root, logarithm and exponential to crate::fm.
+route() { # MODEL
+    sed -E -i \
+        -e 's/\b([a-z_]+)\.(sqrt|ln)\(\)/crate::fm::\2(\1)/g' \
+        -e 's/^( *)(\(.*\))\.exp\(\)$/\1crate::fm::exp\2/' "$1"
+    stands "$1" 1 'crate::fm::sqrt(var)'
+    stands "$1" 1 'crate::fm::ln(lik_t)'
+    stands "$1" 1 'crate::fm::exp(StdNormal.ln_pdf(z) - crate::fm::ln(sd))'
+    for own in '.sqrt()' '.ln()' '.exp()'; do
+        stands "$1" 0 "$own"
+    done
+}
+
+# Writes down the label of a refusal 22 and the row of a refusal 23.
+note() { # MODEL
+    sed -E -i \
+        -e 's/^( *)for &p in &pi \{$/\1for (label, \&p) in pi.iter().enumerate() {/' \
+        -e '/^ *if !\(p\.is_finite\(\) && p >= -1e-9\) \{$/ s/$/ crate::met::at(label, p);/' \
+        -e '/^ *if !\(lik_t\.is_finite\(\) && lik_t > 0\.0\) \{$/ s/$/ crate::met::at(t_idx, 0.0);/' "$1"
+    stands "$1" 1 'for (label, &p) in pi.iter().enumerate() {'
+    stands "$1" 1 'crate::met::at(label, p);'
+    stands "$1" 1 'crate::met::at(t_idx, 0.0);'
+}
+
+compile() { # ARGUMENTS
+    rustc --edition 2021 -C opt-level=3 -C codegen-units=1 -A dead_code -L "$room" --out-dir "$room" "$@"
+}
+
+for flavour in routed untouched; do
+    room=$folder/$flavour
+    rm -rf "$room"
+    mkdir -p "$room/src"
+    for name in model params spec linsolve; do
+        cat "$sources/$name.rs" >"$room/src/$name.rs"
+    done
+    cp "$here"/standins/{lib,error,results,met}.rs "$here/../shim/fm.rs" "$room/src/"
+    if [[ $flavour == routed ]]; then
+        route "$room/src/model.rs"
+        note "$room/src/model.rs"
+    fi
+    cat "$here/standins/model_tail.rs" >>"$room/src/model.rs"
+    compile --crate-type rlib --crate-name tsecon_stats "$here/standins/tsecon_stats.rs"
+    compile --crate-type rlib --crate-name tsecon_regime --extern tsecon_stats "$room/src/lib.rs"
+    compile --crate-name oracle --extern tsecon_regime "$here/oracle.rs"
+done

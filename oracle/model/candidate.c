@@ -1,0 +1,339 @@
+/* Answers the oracle's cases through the C interface of the library, and holds every call to what document 01 promises of
+   lent memory: candidate [short] <cases >answers. README.md has the lines. With `short` each model call is made again with
+   each lent memory one place short.
+
+   Whatever is lent holds a pattern that no call writes, and so do GUARD places before and behind it. */
+#define _POSIX_C_SOURCE 200809L
+#include <inttypes.h>
+#include <stdbool.h>
+#include <stdint.h>
+#include <stdio.h>
+#include <stdlib.h>
+#include <string.h>
+#include "msar.h"
+
+enum { GUARD = 8, PARTS = 4, NUMBERS = 400, LABELS = 16, MOST_LENT = 3 };
+
+static const uint64_t PATTERN = 0x4330123456789abc;
+static const uint64_t ONE_NAN = 0x7ff8000000000000;
+static const uint64_t UNUSED = 0x7ff8dead00000000; /* a NaN: no answer may depend on it */
+
+/* ---- numbers and their patterns */
+
+static double of_bits(uint64_t bits) {
+    double x;
+    memcpy(&x, &bits, sizeof x);
+    return x;
+}
+
+static uint64_t raw(double x) {
+    uint64_t bits;
+    memcpy(&bits, &x, sizeof bits);
+    return bits;
+}
+
+static void show_numbers(const double *v, size_t n) {
+    for (size_t i = 0; i < n; i++) printf(" %016" PRIx64, v[i] != v[i] ? ONE_NAN : raw(v[i]));
+    putchar('\n');
+}
+
+static void broken(const char *what) { printf("broken %s\n", what); }
+
+static void *room(size_t bytes) {
+    void *p = malloc(bytes ? bytes : 1);
+    if (!p) {
+        fputs("candidate: no memory\n", stderr);
+        exit(2);
+    }
+    return p;
+}
+
+/* ---- lent memory */
+
+struct lent {
+    double *all; /* GUARD places, `length` places, GUARD places */
+    size_t length;
+};
+
+static struct lent lend(size_t length) {
+    struct lent m = {room((length + 2 * GUARD) * sizeof(double)), length};
+    for (size_t i = 0; i < length + 2 * GUARD; i++) m.all[i] = of_bits(PATTERN + i);
+    return m;
+}
+
+static double *places(struct lent m) { return m.all + GUARD; }
+
+/* Whether all is as found from place `used` on, and the guards too. */
+static bool as_found(struct lent m, size_t used) {
+    for (size_t i = 0; i < m.length + 2 * GUARD; i++) {
+        bool inside = i >= GUARD && i < GUARD + used;
+        if (!inside && raw(m.all[i]) != PATTERN + i) return false;
+    }
+    return true;
+}
+
+static bool is_zero(struct lent m, size_t from, size_t to) {
+    for (size_t i = from; i < to && i < m.length; i++)
+        if (raw(places(m)[i]) != 0) return false;
+    return true;
+}
+
+/* ---- a case */
+
+struct parameters {
+    size_t counts[6];
+    double numbers[NUMBERS];
+};
+
+static struct {
+    char id[64], call[16];
+    size_t k, p;
+    bool switching_ar, switching_variance;
+    size_t memory[MOST_LENT];
+    size_t readings;
+    double *y;
+    struct parameters q;
+} c;
+
+static char *rest; /* what is left of the line */
+
+static char *word(void) {
+    char *w = strtok_r(NULL, " \n", &rest);
+    if (!w) {
+        fprintf(stderr, "candidate: a line of case %s is too short\n", c.id);
+        exit(2);
+    }
+    return w;
+}
+
+static size_t whole(void) { return strtoull(word(), NULL, 10); }
+static double number(void) { return of_bits(strtoull(word(), NULL, 16)); }
+
+static void begin(void) {
+    snprintf(c.id, sizeof c.id, "%s", word());
+    snprintf(c.call, sizeof c.call, "%s", word());
+    for (size_t i = 0; i < NUMBERS; i++) c.q.numbers[i] = of_bits(UNUSED + i);
+}
+
+static void read_spec(void) {
+    c.k = whole();
+    c.p = whole();
+    c.switching_ar = whole() == 1;
+    c.switching_variance = whole() == 1;
+}
+
+static void read_series(void) {
+    free(c.y);
+    c.readings = whole();
+    c.y = room(c.readings * sizeof *c.y);
+    for (size_t i = 0; i < c.readings; i++) c.y[i] = number();
+}
+
+static void read_part(size_t *count, size_t at, size_t most) {
+    *count = whole();
+    for (size_t i = 0; i < *count && i < most; i++) c.q.numbers[at + i] = number();
+}
+
+/* Whether the line ends a case. */
+static bool read_line(const char *name) {
+    if (!strcmp(name, "case")) begin();
+    else if (!strcmp(name, "spec")) read_spec();
+    else if (!strcmp(name, "memory")) for (size_t i = 0; i < MOST_LENT; i++) c.memory[i] = whole();
+    else if (!strcmp(name, "y")) read_series();
+    else if (!strcmp(name, "means")) read_part(&c.q.counts[0], 256, 16);
+    else if (!strcmp(name, "trans")) read_part(&c.q.counts[1], 0, 256);
+    else if (!strcmp(name, "ar")) {
+        c.q.counts[2] = whole();
+        c.q.counts[3] = whole();
+        read_part(&c.q.counts[4], 272, 112);
+    } else if (!strcmp(name, "var")) read_part(&c.q.counts[5], 384, 16);
+    else return !strcmp(name, "run");
+    return false;
+}
+
+/* ---- an answer, with places around it that no call may write */
+
+struct answer {
+    size_t before, whole[4], between;
+    double real[2], after;
+};
+
+static struct answer blank(void) {
+    struct answer a = {91, {92, 93, 94, 95}, 96, {97.0, 98.0}, 99.0};
+    return a;
+}
+
+/* Holds the fields that this call has no use for to zero. */
+static void hold_fields(const struct answer *a, bool has_place, bool has_loglik) {
+    if (a->before != 91 || a->between != 96 || a->after != 99.0) broken("places beside the answer");
+    if (a->whole[2] || a->whole[3]) broken("iterations and converged");
+    if (!a->whole[0] && ((a->whole[1] && !has_place) || raw(a->real[0]))) broken("refusal fields of an answer");
+    if ((a->whole[0] || !has_loglik) && raw(a->real[1])) broken("log-likelihood of a call that gives none");
+}
+
+static void show_refusal(const struct answer *a) {
+    printf("refusal %zu %zu", a->whole[0], a->whole[1]);
+    show_numbers(&a->real[0], 1);
+}
+
+/* ---- model calls */
+
+static size_t taken(void) {
+    return !strcmp(c.call, "loglike") ? 1 : !strcmp(c.call, "filter") ? 2 : !strcmp(c.call, "smooth") ? 3 : 0;
+}
+
+/* The lengths needed, zeros where spec and series have none. */
+static void needs(size_t need[MOST_LENT]) {
+    size_t m = c.k, n = c.readings > c.p ? c.readings - c.p : 0;
+    for (size_t l = 0; l < c.p && m > 1 && m <= 256; l++) m *= c.k;
+    bool any = c.k >= 2 && c.k <= 16 && m <= 256 && c.readings <= 4096;
+    need[0] = any ? 3 * n * m : 0;
+    need[1] = need[2] = any ? n * c.k : 0;
+}
+
+static void call_model(const struct parameters *q, struct lent m[MOST_LENT], struct answer *a) {
+    size_t calls = taken();
+    if (calls == 1)
+        msar_loglike(c.k, c.p, c.switching_ar, c.switching_variance, c.y, c.readings, q->counts, q->numbers,
+                     places(m[0]), m[0].length, a->whole, a->real);
+    if (calls == 2)
+        msar_filter(c.k, c.p, c.switching_ar, c.switching_variance, c.y, c.readings, q->counts, q->numbers,
+                    places(m[0]), m[0].length, places(m[1]), m[1].length, a->whole, a->real);
+    if (calls == 3)
+        msar_smooth(c.k, c.p, c.switching_ar, c.switching_variance, c.y, c.readings, q->counts, q->numbers,
+                    places(m[0]), m[0].length, places(m[1]), m[1].length, places(m[2]), m[2].length, a->whole, a->real);
+}
+
+/* Refusals of what is handed in touch nothing. After the others and after an answer the needed work memory is +0; a table is
+   written by an answer alone, and only as far as it needs. */
+static void hold_memory(struct lent m[MOST_LENT], const size_t need[MOST_LENT], size_t refused) {
+    static const char *names[MOST_LENT] = {"work memory", "filtered table", "smoothed table"};
+    bool ran = refused == 0 || refused > 20;
+    for (size_t i = 0; i < taken(); i++) {
+        bool written = i == 0 ? ran : refused == 0;
+        if (!as_found(m[i], written ? need[i] : 0)) broken(names[i]);
+    }
+    if (ran && !is_zero(m[0], 0, need[0])) broken("work memory is not cleared");
+}
+
+/* Makes the call with memory of these lengths, and holds it to its promises. */
+static struct answer run_model(const size_t length[MOST_LENT], struct lent m[MOST_LENT]) {
+    struct parameters given = c.q;
+    struct answer a = blank();
+    size_t need[MOST_LENT];
+    needs(need);
+    double *y = room(c.readings * sizeof *y);
+    memcpy(y, c.y, c.readings * sizeof *y);
+    for (size_t i = 0; i < MOST_LENT; i++) m[i] = lend(length[i]);
+    call_model(&given, m, &a);
+    hold_fields(&a, false, true);
+    hold_memory(m, need, a.whole[0]);
+    if (memcmp(&given, &c.q, sizeof given)) broken("parameters");
+    if (memcmp(y, c.y, c.readings * sizeof *y)) broken("series");
+    free(y);
+    return a;
+}
+
+static void give_back(struct lent m[MOST_LENT]) {
+    for (size_t i = 0; i < MOST_LENT; i++) free(m[i].all);
+}
+
+static void show_table(const char *name, struct lent m, size_t need) {
+    size_t shown = need < m.length ? need : m.length;
+    printf("%s %zu %zu", name, c.readings - c.p, c.k);
+    show_numbers(places(m), shown);
+}
+
+static void answer_model(void) {
+    struct lent m[MOST_LENT];
+    size_t need[MOST_LENT];
+    needs(need);
+    struct answer a = run_model(c.memory, m);
+    if (a.whole[0]) show_refusal(&a);
+    else {
+        printf("loglik");
+        show_numbers(&a.real[1], 1);
+        if (taken() > 1) show_table("filtered", m[1], need[1]);
+        if (taken() > 2) show_table("smoothed", m[2], need[2]);
+    }
+    give_back(m);
+}
+
+static void answer_short(void) {
+    static const char *names[MOST_LENT] = {"work", "filtered", "smoothed"};
+    size_t need[MOST_LENT];
+    needs(need);
+    for (size_t i = 0; i < taken() && need[i] > 0; i++) {
+        struct lent m[MOST_LENT];
+        size_t length[MOST_LENT] = {need[0], need[1], need[2]};
+        length[i]--;
+        struct answer a = run_model(length, m);
+        printf("short %s %zu %zu", names[i], a.whole[0], a.whole[1]);
+        show_numbers(&a.real[0], 1);
+        give_back(m);
+    }
+}
+
+/* ---- the other calls */
+
+static void answer_labels(void (*call)(const size_t *, const double *, double *, size_t *, double *)) {
+    struct answer a = blank();
+    struct lent values = lend(LABELS);
+    struct parameters given = c.q;
+    call(given.counts, given.numbers, places(values), a.whole, a.real);
+    hold_fields(&a, false, false);
+    if (memcmp(&given, &c.q, sizeof given)) broken("parameters");
+    if (!as_found(values, a.whole[0] ? 0 : LABELS)) broken("places of the labels");
+    if (a.whole[0]) show_refusal(&a);
+    else {
+        size_t k = c.q.counts[0];
+        if (!is_zero(values, k, LABELS)) broken("places past the labels");
+        printf("%s %zu", c.call, k);
+        show_numbers(places(values), k);
+    }
+    free(values.all);
+}
+
+static void answer_check(void) {
+    struct answer a = blank();
+    msar_check(c.q.counts, c.q.numbers, a.whole, a.real);
+    hold_fields(&a, false, false);
+    if (a.whole[0]) show_refusal(&a);
+}
+
+static void answer_windows(void) {
+    struct answer a = blank();
+    msar_windows(c.k, c.p, a.whole, a.real);
+    hold_fields(&a, true, false);
+    if (a.whole[0]) show_refusal(&a);
+    else printf("windows %zu\n", a.whole[1]);
+}
+
+static void answer_matches(void) {
+    printf("matches %d\n", msar_matches(c.k, c.p, c.switching_ar, c.switching_variance, c.q.counts, c.q.numbers));
+}
+
+static void answer(bool again_short) {
+    printf("answer %s\n", c.id);
+    if (taken()) answer_model();
+    else if (!strcmp(c.call, "windows")) answer_windows();
+    else if (!strcmp(c.call, "check")) answer_check();
+    else if (!strcmp(c.call, "durations")) answer_labels(msar_durations);
+    else if (!strcmp(c.call, "shares")) answer_labels(msar_shares);
+    else if (!strcmp(c.call, "matches")) answer_matches();
+    if (again_short) answer_short();
+    puts("end");
+}
+
+int main(int count, char **words) {
+    bool again_short = count > 1 && !strcmp(words[1], "short");
+    char *line = NULL;
+    size_t size = 0;
+    while (getline(&line, &size, stdin) > 0) {
+        char *name = strtok_r(line, " \n", &rest);
+        if (name && read_line(name)) answer(again_short);
+    }
+    free(line);
+    free(c.y);
+    return 0;
+}

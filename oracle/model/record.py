@@ -1,0 +1,160 @@
+"""Writes the recorded cases of crates/replay: record.py ORACLE FOLDER, ORACLE being the routed one.
+FOLDER/stdin has the cases and FOLDER/stdout the answers, in the lines that crates/replay/src/main.rt names."""
+import random
+import subprocess
+import sys
+from collections import Counter
+
+import chains
+import gen
+from protocol import HUGE, MODEL_CALLS, ZERO, bits, read_answers, refusal_of, with_memory
+
+SEED = 1989
+PLACES = 25600  # what the program has of each memory
+READINGS = 40
+WHOLE_PAIRS = [(2, 0), (2, 1), (2, 7), (3, 2), (4, 3), (16, 0), (16, 1)]  # with every call and every flag
+
+
+# ---- the cases
+
+def shortened(c):
+    """No more than 40 readings, and no more than the program has memory for."""
+    rows = min(READINGS, PLACES // (3 * c.k ** (c.p + 1)))
+    c.y = c.y[-min(READINGS, rows + c.p):]
+    return c
+
+
+def with_flags(r, k, p, sar, svar):
+    while True:
+        c = gen.benign(r, k, p, length=p + 1 + r.randrange(12))
+        if (c.sar, c.svar) == (sar, svar):
+            return c
+
+
+def plain(r):
+    """Every pair once, and some with every call and every flag."""
+    for k, p in gen.PAIRS:
+        yield shortened(gen.benign(r, k, p, length=p + 1 + r.randrange(20)))
+    for k, p in WHOLE_PAIRS:
+        for call in MODEL_CALLS:
+            for sar in (False, True):
+                for svar in (False, True):
+                    c = with_flags(r, k, p, sar, svar)
+                    c.call = call
+                    yield c
+    for k, p in [(2, 1), (2, 7), (3, 3), (5, 2), (16, 1)]:
+        c = shortened(gen.benign(r, k, p, chains.sticky, READINGS))
+        c.call = 'smooth'
+        yield c
+
+
+def nasty(r):
+    """Each family with each call, and each kind of chain."""
+    families = [gen.any_variance, gen.scaled, gen.outliers, gen.on_the_means, gen.constant, gen.subnormal, gen.big, gen.unvisited,
+                gen.negative_shares, gen.order_zero, gen.jump, gen.zero_times_infinity]
+    for family in families:
+        for call in MODEL_CALLS:
+            c = shortened(family(r, *r.choice(gen.USUAL_PAIRS)))
+            c.call = call
+            yield c
+    for chain in chains.ALL:
+        yield shortened(gen.benign(r, *r.choice([(2, 1), (3, 1), (2, 2)]), chain))
+
+
+def faulty(r):
+    """Each fault twice, and one series that is too long."""
+    for fault in gen.FAULTS * 2:
+        c = shortened(gen.benign(r, *r.choice(gen.USUAL_PAIRS)))
+        fault(r, c)
+        yield c
+    c = gen.benign(r, 2, 1, length=4097)
+    yield c
+
+
+def refused_running(r):
+    """21, 22 and 23 from each call."""
+    for chain in (chains.identity, chains.above_one):
+        for call in MODEL_CALLS:
+            c = gen.benign(r, 2, 1, chain, 6)
+            if chain == chains.above_one:
+                c.trans = chains.flat([[1.000000005, 0.0], [0.5, 0.5]])
+            c.call = call
+            yield c
+    for call in MODEL_CALLS:
+        c = gen.benign(r, 2, 1, chains.dyadic, 6)
+        c.y[3], c.call = 1e200, call
+        yield c
+
+
+def short_of_memory(r):
+    """None, and one place less, of each memory of each call; all short at once; beside another fault, before and after 7."""
+    for takes, call in enumerate(MODEL_CALLS, 1):
+        for i in range(takes):
+            for less in (lambda need: 0, lambda need: need - 1):
+                c = gen.benign(r, *r.choice([(2, 1), (3, 2), (2, 0), (16, 1)]), length=5)
+                c.call = call
+                c.memory = tuple(less(n) if j == i else n for j, n in enumerate(c.head().needs()))
+                yield c
+    for fault in (None, gen.bad_reading, gen.bad_mean, gen.other_flags):
+        c = gen.benign(r, 2, 1, length=6)
+        if fault:
+            fault(r, c)
+        c.call, c.memory = 'smooth', (1, 1, 1)
+        yield c
+
+
+def cases():
+    r = random.Random(SEED)
+    for make in (plain, nasty, faulty, refused_running, short_of_memory):
+        for i, c in enumerate(make(r)):
+            c.id = '%s-%d' % (make.__name__, i)
+            if c.memory is None:
+                gen.lend(r, c)
+            assert max(c.memory) <= PLACES and len(c.y) <= 4097
+            yield c
+
+
+# ---- their lines
+
+def given(c):
+    """A case as the program reads it."""
+    parts = {name: c.part(name) for name in ('means', 'trans', 'ar', 'var')}
+    wholes = [MODEL_CALLS.index(c.call) + 1, c.k, c.p, c.sar, c.svar, *c.memory, len(c.y), parts['means'][0], parts['trans'][0],
+              c.blocks, c.order, parts['ar'][0], parts['var'][0]]
+    assert len(wholes) == 15 and all(0 <= n <= HUGE for n in wholes)
+    numbers = c.y + parts['trans'][1] + parts['means'][1] + parts['ar'][1] + parts['var'][1]
+    return ['%016x' % n for n in wholes] + [bits(x) for x in numbers]
+
+
+def expected(c, answer):
+    """What the program has to write. Memory past the needed lengths is as found, and so are the tables after a refusal."""
+    head = c.head()
+    answer = with_memory(answer, head.short())
+    refused = refusal_of(answer)
+    cleared = head.needs()[0] if refused == 0 or refused > 20 else 0
+    lines = ['%s %s' % (answer.get('refusal', '0 0 ' + ZERO), answer.get('loglik', ZERO)), '%d 0' % cleared]
+    for name in ('filtered', 'smoothed')[:head.lent() - 1]:
+        lines += answer[name].split()[2:] if name in answer else []
+        lines.append('0')
+    return lines, refused
+
+
+def write(path, lines):
+    with open(path, 'w') as out:
+        out.writelines(line + '\n' for line in lines)
+
+
+if __name__ == '__main__':
+    oracle, folder = sys.argv[1:3]
+    all_cases = list(cases())
+    said = subprocess.run([oracle], input=''.join(c.text() for c in all_cases), capture_output=True, text=True, check=True).stdout
+    stdin, stdout, refusals = [], [], Counter()
+    for c, (ident, answer) in zip(all_cases, read_answers(said.splitlines()), strict=True):
+        assert c.id == ident
+        lines, refused = expected(c, answer)
+        stdin += given(c)
+        stdout += lines
+        refusals[refused] += 1
+    write(folder + '/stdin', stdin)
+    write(folder + '/stdout', stdout)
+    print('%d cases; refusals (0: answered): %s' % (len(all_cases), dict(sorted(refusals.items()))))

@@ -1,0 +1,14 @@
+//! Root of the crate that build.sh makes of the Rust's four sources, of the stand-ins beside this file and of ../shim/fm.rs.
+pub mod error;
+pub mod fm;
+pub mod met;
+mod linsolve;
+mod model;
+mod params;
+mod results;
+mod spec;
+
+pub use error::RegimeError;
+pub use model::MarkovSwitchingAr;
+pub use params::MsarParams;
+pub use spec::MsarSpec;
