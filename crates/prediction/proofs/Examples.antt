@@ -13,14 +13,14 @@ use Rattle.rows.specs.Rows.{rowOf}
 use Rattle.prediction.specs.Prediction.{firstTo, firstPrediction, laterPrediction}
 
 -- 0.25 and 0.75
-abbrev quarter : Float
+abbrev pub quarter : Float
 quarter = float 0x3FD0_0000_0000_0000
 
-abbrev most : Float
+abbrev pub most : Float
 most = float 0x3FE8_0000_0000_0000
 
 -- two labels, order p, one block of p coefficients (at most one, 0.5), one variance; the transition row by row: P[0][0], P[0][1], P[1][0], P[1][1]
-abbrev params : ℕ → Float → Float → Float → Float → MsarParams
+abbrev pub params : ℕ → Float → Float → Float → Float → MsarParams
 params p a b c d =
     record {
       transition = a ∷ b ∷ c ∷ d ∷ replicate 252 zero⁺;
