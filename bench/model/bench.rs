@@ -1,0 +1,165 @@
+//! Times filter and smooth of the archive beside the Rust's own, on the same series and parameters, turn by turn.
+//! Prints the median of many turns for each, and stops where the two disagree by more than their elementary functions.
+use std::time::Instant;
+use tsecon_regime::{MarkovSwitchingAr, MsarParams, MsarSpec};
+
+#[rustfmt::skip]
+extern "C" {
+    fn msar_filter(k: usize, order: usize, ar: bool, variance: bool, series: *const f64, readings: usize, counts: *const usize,
+        numbers: *const f64, work: *mut f64, work_len: usize, filtered: *mut f64, filtered_len: usize, whole: *mut usize, real: *mut f64);
+    fn msar_smooth(k: usize, order: usize, ar: bool, variance: bool, series: *const f64, readings: usize, counts: *const usize,
+        numbers: *const f64, work: *mut f64, work_len: usize, filtered: *mut f64, filtered_len: usize, smoothed: *mut f64,
+        smoothed_len: usize, whole: *mut usize, real: *mut f64);
+}
+
+/// Numbers in [0, 1), the same each run.
+struct Dice(u64);
+
+impl Dice {
+    fn next(&mut self) -> f64 {
+        self.0 = self.0.wrapping_add(0x9E37_79B9_7F4A_7C15);
+        let mut z = self.0;
+        z = (z ^ (z >> 30)).wrapping_mul(0xBF58_476D_1CE4_E5B9);
+        z = (z ^ (z >> 27)).wrapping_mul(0x94D0_49BB_1331_11EB);
+        ((z ^ (z >> 31)) >> 11) as f64 / (1u64 << 53) as f64
+    }
+
+    fn normal(&mut self) -> f64 {
+        (0..12).map(|_| self.next()).sum::<f64>() - 6.0
+    }
+}
+
+/// A model with one set of coefficients and a variance for each label, and a series drawn from it.
+struct Drawn {
+    spec: MsarSpec,
+    params: MsarParams,
+    counts: [usize; 6],
+    numbers: [f64; 400],
+    series: Vec<f64>,
+}
+
+fn draw(k: usize, p: usize, readings: usize) -> Drawn {
+    let stay = 0.9;
+    let leave = (1.0 - stay) / (k as f64 - 1.0);
+    let transition: Vec<Vec<f64>> =
+        (0..k).map(|i| (0..k).map(|j| if i == j { stay } else { leave }).collect()).collect();
+    let means: Vec<f64> = (0..k).map(|i| i as f64 - (k as f64 - 1.0) / 2.0).collect();
+    let ar: Vec<f64> = (0..p).map(|l| 0.3 / (l as f64 + 1.0)).collect();
+    let variances: Vec<f64> = (0..k).map(|i| 0.5 + 0.1 * i as f64).collect();
+
+    let mut dice = Dice(42 + (100 * k + p) as u64);
+    let mut label = 0;
+    let mut past = vec![0.0; p];
+    let mut series = Vec::new();
+    for _ in 0..readings {
+        if dice.next() > stay {
+            label = (dice.next() * k as f64) as usize % k;
+        }
+        let lags: f64 = ar.iter().zip(&past).map(|(phi, d)| phi * d).sum();
+        let d = dice.normal() * variances[label].sqrt() + lags;
+        past.insert(0, d);
+        past.truncate(p);
+        series.push(means[label] + d);
+    }
+
+    let mut numbers = [0.0; 400];
+    for (i, row) in transition.iter().enumerate() {
+        numbers[i * k..(i + 1) * k].copy_from_slice(row);
+    }
+    numbers[256..256 + k].copy_from_slice(&means);
+    numbers[272..272 + p].copy_from_slice(&ar);
+    numbers[384..384 + k].copy_from_slice(&variances);
+    Drawn {
+        spec: MsarSpec { k_regimes: k, order: p, switching_ar: false, switching_variance: true },
+        params: MsarParams::new(transition, means, vec![ar], variances).expect("these parameters pass"),
+        counts: [k, k * k, 1, p, p, k],
+        numbers,
+        series,
+    }
+}
+
+/// The memory that our calls are lent. Nothing is cleared between calls: each call clears its own work memory.
+struct Lent {
+    work: Vec<f64>,
+    filtered: Vec<f64>,
+    smoothed: Vec<f64>,
+    whole: [usize; 4],
+    real: [f64; 2],
+}
+
+impl Lent {
+    fn new(d: &Drawn) -> Lent {
+        let (k, p) = (d.spec.k_regimes, d.spec.order);
+        let rows = d.series.len() - p;
+        let table = vec![1.0; rows * k];
+        Lent { work: vec![1.0; 3 * rows * k.pow(p as u32 + 1)], filtered: table.clone(), smoothed: table, whole: [9; 4], real: [9.0; 2] }
+    }
+
+    fn filter(&mut self, d: &Drawn) -> f64 {
+        unsafe {
+            msar_filter(
+                d.spec.k_regimes, d.spec.order, false, true, d.series.as_ptr(), d.series.len(), d.counts.as_ptr(),
+                d.numbers.as_ptr(), self.work.as_mut_ptr(), self.work.len(), self.filtered.as_mut_ptr(),
+                self.filtered.len(), self.whole.as_mut_ptr(), self.real.as_mut_ptr(),
+            )
+        }
+        self.real[1]
+    }
+
+    fn smooth(&mut self, d: &Drawn) -> f64 {
+        unsafe {
+            msar_smooth(
+                d.spec.k_regimes, d.spec.order, false, true, d.series.as_ptr(), d.series.len(), d.counts.as_ptr(),
+                d.numbers.as_ptr(), self.work.as_mut_ptr(), self.work.len(), self.filtered.as_mut_ptr(),
+                self.filtered.len(), self.smoothed.as_mut_ptr(), self.smoothed.len(), self.whole.as_mut_ptr(),
+                self.real.as_mut_ptr(),
+            )
+        }
+        self.real[1]
+    }
+}
+
+/// Median milliseconds of each, turn by turn, over about two seconds.
+fn medians(mut ours: impl FnMut() -> f64, mut theirs: impl FnMut() -> f64) -> (f64, f64) {
+    let (mut a, mut b) = (Vec::new(), Vec::new());
+    let begin = Instant::now();
+    while a.len() < 15 || begin.elapsed().as_secs_f64() < 2.0 {
+        let t = Instant::now();
+        std::hint::black_box(ours());
+        a.push(t.elapsed().as_secs_f64() * 1e3);
+        let t = Instant::now();
+        std::hint::black_box(theirs());
+        b.push(t.elapsed().as_secs_f64() * 1e3);
+    }
+    let middle = |v: &mut Vec<f64>| {
+        v.sort_by(f64::total_cmp);
+        v[v.len() / 2]
+    };
+    (middle(&mut a), middle(&mut b))
+}
+
+/// Both answered, and the tables agree but for the last digits of the platform's functions.
+fn agree(ours: &[f64], theirs: &[Vec<f64>]) {
+    let gap = ours.iter().zip(theirs.iter().flatten()).map(|(a, b)| (a - b).abs()).fold(0.0, f64::max);
+    assert!(gap < 1e-9, "the tables differ by {gap}");
+}
+
+fn main() {
+    println!("                     ours ms     Rust ms   Rust/ours");
+    for (k, p) in [(2, 0), (2, 1), (2, 4), (2, 7), (4, 3), (16, 1)] {
+        for readings in [256, 4096] {
+            let d = draw(k, p, readings);
+            let mut lent = Lent::new(&d);
+            let bind = || MarkovSwitchingAr::new(&d.series, d.spec).expect("this series binds");
+            lent.filter(&d);
+            assert_eq!(lent.whole[0], 0, "our filter refused");
+            agree(&lent.filtered, &bind().filter(&d.params).expect("the Rust filters").filtered_prob);
+            lent.smooth(&d);
+            agree(&lent.smoothed, &bind().smooth(&d.params).expect("the Rust smooths").smoothed_prob);
+            let (ours, theirs) = medians(|| lent.filter(&d), || bind().filter(&d.params).map_or(0.0, |r| r.loglik));
+            println!("filter {k:2} {p} {readings:5} {ours:11.4} {theirs:11.4} {:11.2}", theirs / ours);
+            let (ours, theirs) = medians(|| lent.smooth(&d), || bind().smooth(&d.params).map_or(0.0, |r| r.loglik));
+            println!("smooth {k:2} {p} {readings:5} {ours:11.4} {theirs:11.4} {:11.2}", theirs / ours);
+        }
+    }
+}

@@ -1,0 +1,136 @@
+/* How deep the calls go: each runs in a thread whose stack is 64 KiB and a stated allowance for the thread itself, at the
+ * largest sizes. The stack is painted first; what is no longer painted afterwards was used. A call that needs more ends
+ * the program by a fault, since the page below the stack cannot be touched. */
+#define _GNU_SOURCE
+#include <pthread.h>
+#include <stdbool.h>
+#include <stdio.h>
+#include <stdlib.h>
+#include <string.h>
+#include <sys/mman.h>
+#include "msar.h"
+
+enum { LIMIT = 64 * 1024, ALLOWANCE = 16 * 1024, PAGE = 4096, PAINT = 0xA5, READINGS = 4096 };
+
+struct job {
+    const char *name;
+    size_t k, order;
+    double *series, *work, *filtered, *smoothed;
+    size_t work_len, table_len;
+    size_t counts[6], whole[4];
+    double numbers[400], real[2];
+};
+
+static void *nothing(void *given)
+{
+    (void)given;
+    return NULL;
+}
+
+static void *loglike(void *given)
+{
+    struct job *j = given;
+    msar_loglike(j->k, j->order, false, true, j->series, READINGS, j->counts, j->numbers, j->work, j->work_len, j->whole, j->real);
+    return NULL;
+}
+
+static void *filter(void *given)
+{
+    struct job *j = given;
+    msar_filter(j->k, j->order, false, true, j->series, READINGS, j->counts, j->numbers, j->work, j->work_len, j->filtered,
+                j->table_len, j->whole, j->real);
+    return NULL;
+}
+
+static void *smooth(void *given)
+{
+    struct job *j = given;
+    msar_smooth(j->k, j->order, false, true, j->series, READINGS, j->counts, j->numbers, j->work, j->work_len, j->filtered,
+                j->table_len, j->smoothed, j->table_len, j->whole, j->real);
+    return NULL;
+}
+
+static void stop(const char *what)
+{
+    fprintf(stderr, "stack: %s\n", what);
+    exit(2);
+}
+
+/* Bytes of a fresh stack that the call used, the thread's own among them. */
+static size_t depth(void *(*call)(void *), struct job *j)
+{
+    size_t size = LIMIT + ALLOWANCE;
+    unsigned char *low = mmap(NULL, size + PAGE, PROT_READ | PROT_WRITE, MAP_PRIVATE | MAP_ANONYMOUS, -1, 0);
+    pthread_attr_t attr;
+    pthread_t thread;
+    size_t untouched = 0;
+
+    if (low == MAP_FAILED || mprotect(low, PAGE, PROT_NONE))
+        stop("no memory for a stack");
+    memset(low + PAGE, PAINT, size);
+    if (pthread_attr_init(&attr) || pthread_attr_setstack(&attr, low + PAGE, size) || pthread_create(&thread, &attr, call, j))
+        stop("no thread");
+    pthread_join(thread, NULL);
+    while (untouched < size && low[PAGE + untouched] == PAINT)
+        untouched++;
+    munmap(low, size + PAGE);
+    return size - untouched;
+}
+
+static void *lent(size_t count)
+{
+    void *memory = calloc(count, sizeof(double));
+    if (!memory)
+        stop("no memory to lend");
+    return memory;
+}
+
+static struct job job(size_t k, size_t order)
+{
+    struct job j = {.k = k, .order = order};
+    size_t rows = READINGS - order, windows = k, i;
+
+    for (i = 0; i < order; i++)
+        windows *= k;
+    j.work_len = 3 * rows * windows;
+    j.table_len = rows * k;
+    j.series = lent(READINGS);
+    j.work = lent(j.work_len);
+    j.filtered = lent(j.table_len);
+    j.smoothed = lent(j.table_len);
+    for (i = 0; i < READINGS; i++)
+        j.series[i] = (double)(i * 2654435761u % 1000) / 250.0 - 2.0;
+    j.counts[0] = k, j.counts[1] = k * k, j.counts[2] = 1, j.counts[3] = order, j.counts[4] = order, j.counts[5] = k;
+    for (i = 0; i < k * k; i++)
+        j.numbers[i] = i / k == i % k ? 0.75 : 0.25 / (double)(k - 1);
+    for (i = 0; i < k; i++) {
+        j.numbers[256 + i] = (double)i / (double)k;
+        j.numbers[384 + i] = 1.0 + 0.125 * (double)i;
+    }
+    for (i = 0; i < order; i++)
+        j.numbers[272 + i] = 0.125;
+    return j;
+}
+
+int main(void)
+{
+    static const size_t sizes[][2] = {{2, 0}, {2, 7}, {4, 3}, {16, 1}};
+    static void *(*const calls[])(void *) = {loglike, filter, smooth};
+    static const char *const names[] = {"loglike", "filter", "smooth"};
+    size_t own = depth(nothing, NULL), deepest = 0, s, c;
+
+    for (s = 0; s < sizeof sizes / sizeof *sizes; s++) {
+        struct job j = job(sizes[s][0], sizes[s][1]);
+        for (c = 0; c < 3; c++) {
+            size_t used = depth(calls[c], &j) - own;
+            if (j.whole[0])
+                stop("a call refused");
+            printf("stack: %s, k = %zu, order %zu, %d readings: %zu bytes\n", names[c], j.k, j.order, READINGS, used);
+            if (used > deepest)
+                deepest = used;
+        }
+        free(j.series), free(j.work), free(j.filtered), free(j.smoothed);
+    }
+    printf("stack: the deepest call uses %zu of %d bytes; a thread by itself uses %zu\n", deepest, LIMIT, own);
+    return deepest <= LIMIT ? 0 : 1;
+}
