@@ -1,15 +1,98 @@
 /* The library's functions for C: link libc_interface.a, which `rt staticlib c_interface` writes. Each function is proved
    equal to its definition in Rattle; this file only says the same in C.
 
-   Every call returns, whatever the argument, and writes no memory. The rounding mode must be to nearest, and subnormal
-   numbers must not be flushed to zero (as -ffast-math does): both are so unless the program changed it. Which NaN is returned is not fixed: its sign and payload may differ from call to call, so test
-   for a NaN and do not compare its bits. */
+   Every call returns, whatever the numbers are, allocates nothing, and writes no memory but what its last parameters lend.
+   No pointer may be null, no lent array may overlap another array of the same call, and behind each pointer there must be
+   as many elements as this file says. The rounding mode must be to nearest, and subnormal numbers must not be flushed to
+   zero (as -ffast-math does): both are so unless the program changed it. Which NaN is returned is not fixed: its sign and
+   payload may differ from call to call, so test for a NaN and do not compare its bits. A size_t must have 64 bits. */
 #ifndef MSAR_H
 #define MSAR_H
+
+#include <stdbool.h>
+#include <stddef.h>
 
 #ifdef __cplusplus
 extern "C" {
 #endif
+
+/* ---- the arrays
+
+   A spec is k regimes and an order, and whether the AR coefficients and the variance switch with the regime. Labels are
+   0 .. k-1. A window is the labels of the last order + 1 readings; there are m = k^(order+1), at most 256. Of a series of
+   T readings, at most 4096, the first `order` only start it: there are n = T - order rows.
+
+   Parameters are two arrays.
+     counts[6]    number of means, length of the transition table, number of AR blocks, order, length of the AR table,
+                  number of variances. Any values: the library checks them.
+     numbers[400] from 0 on the transition table: P[i][j] at i*k + j, i the label now, j the label before;
+                  from 256 on the means; from 272 on the AR coefficients: block b, lag l >= 1 at 272 + b*order + l-1;
+                  from 384 on the variances. Each part is used from its start; the rest of it is ignored.
+
+   An answer is two arrays, of which every place is written every time.
+     whole[4]     refusal number (0: answered), place, iterations, converged (0 or 1)
+     real[2]      the refusal's value, the log-likelihood
+   Places that a call has no use for are 0 and +0.
+
+   Refusals, with the place and the value that each carries:
+      1 fewer than 2 regimes: k                        15 an AR coefficient is not finite: its index, its value
+      2 more than 256 windows: k                       16 a variance is not finite or not above 0: its index, its value
+      3 more than 16 regimes: k                        17 no AR block
+      4 series too short: order + 1                    18 more than 16 means, or an order above 7: that count
+      5 series too long: its length                    20 the parameters are not of the spec's shape
+      6 a reading is not finite: its index             21 a system of equations is singular: 0 for the shares
+      7 lent memory too short: the length needed       22 a share is not finite or below -1e-9: its label, its value
+     10 fewer than 2 means: their number               23 a row's likelihood is not finite or not above 0: the row
+     11 a mean is not finite: its index, its value
+     12 a length is wrong: the length expected
+     13 an entry of P is no probability: i*k + j, its value
+     14 a column of P does not sum to 1: its label, the sum */
+
+/* ---- calls on a spec or on parameters alone */
+
+/* The number of windows m as the place, or refusal 1, 2 or 3. */
+void msar_windows(size_t k, size_t order, size_t whole[4], double real[2]);
+
+/* The checks of the parameters, refusals 10 to 18. */
+void msar_check(const size_t counts[6], const double numbers[400], size_t whole[4], double real[2]);
+
+/* The expected durations of the labels, 1 / (1 - P[i][i]), after the checks of the parameters. durations[16]: of label i at
+   i, +0 past label k-1; as found on a refusal. */
+void msar_durations(const size_t counts[6], const double numbers[400], double durations[16], size_t whole[4], double real[2]);
+
+/* The stationary shares of the labels: the checks of the parameters, then refusals 21 and 22. shares[16]: of label i at i,
+   +0 past label k-1; as found on a refusal. */
+void msar_shares(const size_t counts[6], const double numbers[400], double shares[16], size_t whole[4], double real[2]);
+
+/* Whether the parameters are of the spec's shape. It only compares. */
+bool msar_matches(size_t k, size_t order, bool switching_ar, bool switching_variance, const size_t counts[6],
+                  const double numbers[400]);
+
+/* ---- calls on a series
+
+   work: at least 3*n*m numbers, whatever they are; its first 3*n*m are +0 afterwards. filtered and smoothed: at least n*k
+   numbers each; P(label of row i is j) is written at i*k + j. What lies beyond these places is left as found. The checks
+   come in this order: spec (1 to 3), series (4 to 6), lent memory (7: work, then the tables in their order), parameters
+   (10 to 18), shape (20). Where one of these refuses, all lent memory is left as found; where 21, 22 or 23 refuses, the
+   tables are left as found and work is cleared. */
+
+/* The log-likelihood of the series. */
+void msar_loglike(size_t k, size_t order, bool switching_ar, bool switching_variance, const double *series,
+                  size_t series_len, const size_t counts[6], const double numbers[400], double *work, size_t work_len,
+                  size_t whole[4], double real[2]);
+
+/* The log-likelihood, and the probabilities of the labels given the readings up to each row. */
+void msar_filter(size_t k, size_t order, bool switching_ar, bool switching_variance, const double *series,
+                 size_t series_len, const size_t counts[6], const double numbers[400], double *work, size_t work_len,
+                 double *filtered, size_t filtered_len, size_t whole[4], double real[2]);
+
+/* The same, and the probabilities of the labels given all readings. */
+void msar_smooth(size_t k, size_t order, bool switching_ar, bool switching_variance, const double *series,
+                 size_t series_len, const size_t counts[6], const double numbers[400], double *work, size_t work_len,
+                 double *filtered, size_t filtered_len, double *smoothed, size_t smoothed_len, size_t whole[4],
+                 double real[2]);
+
+/* ---- elementary functions; they write no memory */
 
 /* The square root, to the nearest number. Of either zero the same zero, of +infinity +infinity, of a number below zero, of
    -infinity and of a NaN a NaN. */

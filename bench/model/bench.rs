@@ -1,6 +1,6 @@
 //! Times filter and smooth of the archive beside the Rust's own, on the same series and parameters, turn by turn.
-//! Prints the median of many turns for each, and stops where the two disagree by more than their elementary functions.
-use std::time::Instant;
+//! Prints the median of many turns for each, in processor time of the thread, so that other work on the machine counts little;
+//! and stops where the two disagree by more than their elementary functions.
 use tsecon_regime::{MarkovSwitchingAr, MsarParams, MsarSpec};
 
 #[rustfmt::skip]
@@ -10,6 +10,23 @@ extern "C" {
     fn msar_smooth(k: usize, order: usize, ar: bool, variance: bool, series: *const f64, readings: usize, counts: *const usize,
         numbers: *const f64, work: *mut f64, work_len: usize, filtered: *mut f64, filtered_len: usize, smoothed: *mut f64,
         smoothed_len: usize, whole: *mut usize, real: *mut f64);
+}
+
+#[repr(C)]
+struct Clock {
+    seconds: i64,
+    nanoseconds: i64,
+}
+
+extern "C" {
+    fn clock_gettime(id: i32, clock: *mut Clock) -> i32;
+}
+
+/// Milliseconds of processor time that this thread has used (Linux: clock 3).
+fn used() -> f64 {
+    let mut c = Clock { seconds: 0, nanoseconds: 0 };
+    assert_eq!(unsafe { clock_gettime(3, &mut c) }, 0, "no clock");
+    c.seconds as f64 * 1e3 + c.nanoseconds as f64 / 1e6
 }
 
 /// Numbers in [0, 1), the same each run.
@@ -121,27 +138,29 @@ impl Lent {
 
 /// Median milliseconds of each, turn by turn, over about two seconds.
 fn medians(mut ours: impl FnMut() -> f64, mut theirs: impl FnMut() -> f64) -> (f64, f64) {
-    let (mut a, mut b) = (Vec::new(), Vec::new());
-    let begin = Instant::now();
-    while a.len() < 15 || begin.elapsed().as_secs_f64() < 2.0 {
-        let t = Instant::now();
-        std::hint::black_box(ours());
-        a.push(t.elapsed().as_secs_f64() * 1e3);
-        let t = Instant::now();
-        std::hint::black_box(theirs());
-        b.push(t.elapsed().as_secs_f64() * 1e3);
+    fn one(call: &mut impl FnMut() -> f64) -> f64 {
+        let begin = used();
+        std::hint::black_box(call());
+        used() - begin
     }
-    let middle = |v: &mut Vec<f64>| {
-        v.sort_by(f64::total_cmp);
-        v[v.len() / 2]
-    };
-    (middle(&mut a), middle(&mut b))
+    let (mut a, mut b) = (Vec::new(), Vec::new());
+    let begin = used();
+    while a.len() < 15 || used() - begin < 2e3 {
+        a.push(one(&mut ours));
+        b.push(one(&mut theirs));
+    }
+    a.sort_by(f64::total_cmp);
+    b.sort_by(f64::total_cmp);
+    (a[a.len() / 2], b[b.len() / 2])
 }
 
-/// Both answered, and the tables agree but for the last digits of the platform's functions.
+/// The tables agree but for the last digits of the platform's functions. At order 0 smoothed numbers grow without bound, in
+/// both alike, so a gap counts over the number's size.
 fn agree(ours: &[f64], theirs: &[Vec<f64>]) {
-    let gap = ours.iter().zip(theirs.iter().flatten()).map(|(a, b)| (a - b).abs()).fold(0.0, f64::max);
-    assert!(gap < 1e-9, "the tables differ by {gap}");
+    for (a, b) in ours.iter().zip(theirs.iter().flatten()) {
+        let same = a == b || a.is_nan() && b.is_nan() || (a - b).abs() <= 1e-9 * a.abs().max(1.0);
+        assert!(same, "the tables differ: {a} and {b}");
+    }
 }
 
 fn main() {

@@ -1,5 +1,5 @@
 -- The smoother: for each row the weights of the windows given the whole series, from the last row back to the first.
--- After Kim (1994), equation 10, and document 01, "Smoother".
+-- After Kim (1994), equation 10, Kim and Nelson (1999), and document 01, "Smoother".
 use Prim.Native.Nat.{ℕ, zero, suc}
 use mathlib.Core.Bool.{Bool}
 use mathlib.Core.List.{List}

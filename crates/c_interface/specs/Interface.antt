@@ -1,0 +1,98 @@
+-- The C interface: the records that its arrays stand for, and how an answer is spelled in them.
+-- After include/msar.h, which says the same in C, and document 01, "Refusals by number".
+use Prim.Native.Nat.{ℕ, _+_}
+use mathlib.Core.Bool.{Bool}
+use mathlib.Core.List.{List, [], _∷_}
+use lib.ListN.{getD}
+use lib.Ieee.{Float}
+use Rattle.number.specs.Number.{zero⁺}
+use Rattle.number.specs.Table.{_!_, tab}
+use Rattle.refusal.specs.Refusals.{said}
+use Rattle.refusal.specs.declared.Check.{Check}
+use Rattle.refusal.specs.declared.Check.the-variants.{Passed, Failed}
+use Rattle.spec.specs.declared.MsarSpec.{MsarSpec}
+use Rattle.spec.specs.declared.Windows.{Windows}
+use Rattle.spec.specs.declared.Windows.the-variants.{Count, Refused}
+use Rattle.params.specs.declared.MsarParams.{MsarParams}
+use Rattle.params.specs.declared.Durations.{Durations}
+use Rattle.stationary.specs.declared.Shares.{Shares}
+use Rattle.model.specs.Calls.{Outcome}
+
+-- ---- what is handed in
+
+abbrev pub specOf : ℕ → ℕ → Bool → Bool → MsarSpec
+specOf k p switchingAr switchingVariance =
+    record { «k_regimes» = k; order = p; «switching_ar» = switchingAr; «switching_variance» = switchingVariance }
+
+-- n numbers from place s on
+abbrev pub part : ℕ → ℕ → List Float → List Float
+part s n numbers = tab (λ i. numbers ! (s + i)) n
+
+-- six counts and 400 numbers: the transition table, the means, the AR coefficients, the variances
+unfoldable pub paramsOf : List ℕ → List Float → MsarParams
+paramsOf counts numbers =
+    record {
+      transition = part 0 256 numbers;
+      means = part 256 16 numbers;
+      ar = part 272 112 numbers;
+      variances = part 384 16 numbers;
+      «means_count» = getD counts 0 0;
+      «transition_count» = getD counts 1 0;
+      «ar_blocks» = getD counts 2 0;
+      order = getD counts 3 0;
+      «ar_count» = getD counts 4 0;
+      «variances_count» = getD counts 5 0;
+    }
+
+-- ---- how an answer is spelled
+
+-- refusal number, place, iterations, converged; and the refusal's value, the log-likelihood. Number 0 is an answer
+pub record Spelled : Type 0 where
+  pub whole : List ℕ
+  pub real : List Float
+
+-- a call that iterates over nothing, answered with a place and a log-likelihood
+abbrev pub spelled : Check → ℕ → Float → Spelled
+spelled Passed place loglik = record { whole = 0 ∷ place ∷ 0 ∷ 0 ∷ []; real = zero⁺ ∷ loglik ∷ [] }
+spelled (Failed r) place loglik = record { whole = said r .number ∷ said r .place ∷ 0 ∷ 0 ∷ []; real = said r .value ∷ zero⁺ ∷ [] }
+
+-- the place is the number of windows
+abbrev pub windowsSpelled : Windows → Spelled
+windowsSpelled (Count m) = spelled Passed m zero⁺
+windowsSpelled (Refused r) = spelled (Failed r) 0 zero⁺
+
+-- ---- an answer of 16 numbers
+
+pub record Listed : Type 0 where
+  pub values : List Float
+  pub whole : List ℕ
+  pub real : List Float
+
+-- a refusal leaves the 16 as found
+abbrev pub valuesAfter : Check → List Float → List Float → List Float
+valuesAfter Passed values found = values
+valuesAfter (Failed r) values found = found
+
+unfoldable pub listed : Check → List Float → List Float → Listed
+listed c values found =
+    record { values = valuesAfter c values found; whole = spelled c 0 zero⁺ .whole; real = spelled c 0 zero⁺ .real }
+
+abbrev pub durationsListed : Durations → List Float → Listed
+durationsListed d found = listed (d .check) (d .values) found
+
+abbrev pub sharesListed : Shares → List Float → Listed
+sharesListed s found = listed (s .check) (s .values) found
+
+-- ---- a call on a series: its answer, and what it leaves in lent memory. A call that takes no such table is lent the empty one
+
+pub record Left : Type 0 where
+  pub whole : List ℕ
+  pub real : List Float
+  pub work : List Float
+  pub filtered : List Float
+  pub smoothed : List Float
+
+unfoldable pub left : Outcome → Left
+left o =
+    let told = spelled (o .answer .check) 0 (o .answer .loglik) in
+    record { whole = told .whole; real = told .real; work = o .work; filtered = o .filtered; smoothed = o .smoothed }
