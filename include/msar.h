@@ -1,11 +1,12 @@
 /* The library's functions for C: link libc_interface.a, which `rt staticlib c_interface` writes. Each function is proved
    equal to its definition in Rattle; this file only says the same in C.
 
-   Every call returns, whatever the numbers are, allocates nothing, and writes no memory but what its last parameters lend.
-   No pointer may be null, no lent array may overlap another array of the same call, and behind each pointer there must be
-   as many elements as this file says. The rounding mode must be to nearest, and subnormal numbers must not be flushed to
-   zero (as -ffast-math does): both are so unless the program changed it. Which NaN is returned is not fixed: its sign and
-   payload may differ from call to call, so test for a NaN and do not compare its bits. A size_t must have 64 bits. */
+   Every call returns, whatever the numbers are, allocates nothing, keeps nothing between calls, and writes no memory but
+   its arrays that are not const. A call uses less than 64 KiB of stack. No pointer may be null, no lent array may overlap
+   another array of the same call, and behind each pointer there must be as many elements as this file says. The rounding
+   mode must be to nearest, and subnormal numbers must not be flushed to zero (as -ffast-math does): both are so unless the
+   program changed it. Which NaN is returned is not fixed: its sign and payload may differ from call to call, so test for a
+   NaN and do not compare its bits. A size_t must have 64 bits. */
 #ifndef MSAR_H
 #define MSAR_H
 
@@ -18,9 +19,10 @@ extern "C" {
 
 /* ---- the arrays
 
-   A spec is k regimes and an order, and whether the AR coefficients and the variance switch with the regime. Labels are
-   0 .. k-1. A window is the labels of the last order + 1 readings; there are m = k^(order+1), at most 256. Of a series of
-   T readings, at most 4096, the first `order` only start it: there are n = T - order rows.
+   A spec is k regimes and an order, and whether the AR coefficients and the variance switch with the regime. Labels 0 to
+   k-1 name the regimes. A window is the labels of the last order + 1 readings; there are m = k^(order+1), at most 256. Of a
+   series of T readings, at most 4096, the first `order` only start it: there are n = T - order rows, and row i is of the
+   reading series[order + i].
 
    Parameters are two arrays.
      counts[6]    number of means, length of the transition table, number of AR blocks, order, length of the AR table,
@@ -38,15 +40,15 @@ extern "C" {
       1 fewer than 2 regimes: k                        15 an AR coefficient is not finite: its index, its value
       2 more than 256 windows: k                       16 a variance is not finite or not above 0: its index, its value
       3 more than 16 regimes: k                        17 no AR block
-      4 series too short: order + 1                    18 more than 16 means, or an order above 7: that count
+      4 series too short: order + 1                    18 more than 16 means, or an order above 7: that number
       5 series too long: its length                    20 the parameters are not of the spec's shape
       6 a reading is not finite: its index             21 a system of equations is singular: 0 for the shares
       7 lent memory too short: the length needed       22 a share is not finite or below -1e-9: its label, its value
      10 fewer than 2 means: their number               23 a row's likelihood is not finite or not above 0: the row
      11 a mean is not finite: its index, its value
      12 a length is wrong: the length expected
-     13 an entry of P is no probability: i*k + j, its value
-     14 a column of P does not sum to 1: its label, the sum */
+     13 an entry of P is not finite, below 0 or above 1 + 1e-8: i*k + j, its value
+     14 the sum of a column of P differs from 1 by more than 1e-8: its label, the sum */
 
 /* ---- calls on a spec or on parameters alone */
 
@@ -74,7 +76,10 @@ bool msar_matches(size_t k, size_t order, bool switching_ar, bool switching_vari
    numbers each; P(label of row i is j) is written at i*k + j. What lies beyond these places is left as found. The checks
    come in this order: spec (1 to 3), series (4 to 6), lent memory (7: work, then the tables in their order), parameters
    (10 to 18), shape (20). Where one of these refuses, all lent memory is left as found; where 21, 22 or 23 refuses, the
-   tables are left as found and work is cleared. */
+   tables are left as found and work is cleared.
+
+   At order 0 the calls follow the Rust they were ported from: every prediction but the first is column 0 of P, whatever
+   came before, and the smoothed numbers are no probabilities: a row may total more than 1 and run to infinity or NaN. */
 
 /* The log-likelihood of the series. */
 void msar_loglike(size_t k, size_t order, bool switching_ar, bool switching_variance, const double *series,

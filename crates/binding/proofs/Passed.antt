@@ -1,7 +1,7 @@
 -- What the checks that passed say of the spec, the series and the parameters. Assumes nothing.
 use Prim.Native.Nat.{ℕ, suc, _+_, _-_, _*_, _/_, _^_, _<_, _≤_}
 use mathlib.Core.Path.{_≡_, refl, sym, ap, _∙_}
-use mathlib.Core.Bool.{Bool, true, false, not, _&&_, Bool·beq}
+use mathlib.Core.Bool.{Bool, true, false, _&&_, Bool·beq}
 use mathlib.Core.List.{List}
 use native.Mathlib.Nat.{pow-suc, mul-div-cancel, mul-le-mul}
 use native.Mathlib.Omega.{arith}
@@ -13,7 +13,7 @@ use Rattle.refusal.specs.Checks.{_before_, _when_}
 use Rattle.refusal.specs.declared.Check.{Check}
 use Rattle.refusal.specs.declared.Check.the-variants.{Passed, Failed}
 use Rattle.refusal.specs.declared.Refusal.{Refusal}
-use Rattle.refusal.specs.declared.Refusal.the-variants.{FewRegimes, ManyWindows, ManyRegimes, ShortSeries, LongSeries}
+use Rattle.refusal.specs.declared.Refusal.the-variants.{FewRegimes, ManyWindows, ShortSeries, LongSeries}
 use Rattle.refusal.specs.declared.Refusal.the-variants as refusals
 use Rattle.refusal.proofs.Checks.{both, untrue}
 use Rattle.spec.specs.Spec.{specCheck, counted}

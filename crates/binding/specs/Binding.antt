@@ -60,7 +60,7 @@ workNeed S y = 3 * ((length y - S .order) * S .«k_regimes» ^ suc (S .order))
 abbrev pub tableNeed : MsarSpec → List Float → ℕ
 tableNeed S y = (length y - S .order) * S .«k_regimes»
 
--- 7, where so much is lent
+-- 7 where less is lent than needed
 abbrev pub memoryCheck : ℕ → ℕ → Check
 memoryCheck lent needed = Memory needed when lent <? needed
 

@@ -92,7 +92,7 @@ pub fn bind(s: MsarSpec, y: &[f64]) -> Bound
 }
 
 // 7.
-pub fn memory(lent: usize, needed: usize) -> Check
+fn memory(lent: usize, needed: usize) -> Check
     ensures { λ r. ⌜ r ≡ memoryCheck lent needed ⌝ }
 {
     if lent < needed {
@@ -102,7 +102,7 @@ pub fn memory(lent: usize, needed: usize) -> Check
 }
 
 // The parameter checks, then 20.
-pub fn parameters(s: MsarSpec, q: MsarParams) -> Check
+fn parameters(s: MsarSpec, q: MsarParams) -> Check
     ensures { λ r. ⌜ r ≡ paramsCheck s q ⌝ }
 {
     let own = q.check();

@@ -51,7 +51,7 @@ pub record Spelled : Type 0 where
   pub whole : List ℕ
   pub real : List Float
 
--- a call that iterates over nothing, answered with a place and a log-likelihood
+-- a call without iterations, answered with a place and a log-likelihood
 abbrev pub spelled : Check → ℕ → Float → Spelled
 spelled Passed place loglik = record { whole = 0 ∷ place ∷ 0 ∷ 0 ∷ []; real = zero⁺ ∷ loglik ∷ [] }
 spelled (Failed r) place loglik = record { whole = said r .number ∷ said r .place ∷ 0 ∷ 0 ∷ []; real = said r .value ∷ zero⁺ ∷ [] }

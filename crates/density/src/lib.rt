@@ -3,7 +3,7 @@
 // that windows with the same newest labels share the work.
 ghost use mathlib.Core.Path.{_≡_};
 ghost use mathlib.Core.Logic.{_⊎_};
-ghost use Prim.Native.Nat.{ℕ, suc, _+_, _*_, _%_, _^_, _<_, _≤_};
+ghost use Prim.Native.Nat.{suc, _+_, _*_, _%_, _^_, _<_, _≤_};
 ghost use lib.ListN.{length, replicate};
 ghost use Rattle.number.specs.Number.{_⊕_, _⊗_, zero⁺};
 ghost use Rattle.number.specs.Sums.{sumUp};
@@ -128,7 +128,7 @@ fn lag_block(
     }
 }
 
-// One lag more: from the windows of so many labels, step of them, to those of one label more.
+// One lag more: from the step windows of some labels to the k * step windows of one label more.
 fn lag(
     row: &mut [f64; 256],
     phis: &[f64; 112],

@@ -7,13 +7,12 @@ use mathlib.Core.Logic.{⊎-elim}
 use native.Mathlib.Numerals.{add-one}
 use native.Mathlib.Nat.{eq-or-lt-of-le, le-of-suc-le-suc, not-suc-le-zero}
 use native.Mathlib.Omega.{arith}
-use lib.ListN.{length, drop, replicate}
+use lib.ListN.{length, drop}
 use lib.Ieee.{Float}
 use Rattle.number.specs.Number.{_⊕_, _⊗_, _⊘_, zero⁺, usable}
-use Rattle.number.specs.Sums.{sumUp}
 use Rattle.number.specs.Table.{_!_, fillAt}
 use Rattle.number.proofs.Sums.{sum-none, sum-next, sum-ext}
-use Rattle.number.proofs.Table.{fill-at, row-before}
+use Rattle.number.proofs.Table.{fill-at}
 use Rattle.log.specs.Log.{logOf}
 use Rattle.refusal.specs.Checks.{each}
 use Rattle.refusal.specs.declared.Check.{Check}
@@ -27,12 +26,11 @@ use Rattle.window.specs.Time.{timeOf}
 use Rattle.window.proofs.Windows.{number-labels}
 use Rattle.params.specs.declared.MsarParams.{MsarParams}
 use Rattle.params.specs.Parameters.{k, p}
-use Rattle.rows.specs.Rows.{rowOf, Same}
+use Rattle.rows.specs.Rows.{Same}
 use Rattle.rows.specs.Memory.{predictedFrom, filteredFrom}
 use Rattle.rows.proofs.Rows.{row-at}
 use Rattle.rows.proofs.Places.{place, rows-within}
 use Rattle.density.specs.Density.{density}
-use Rattle.prediction.specs.Prediction.{firstPrediction, laterPrediction}
 use Rattle.prediction.specs.Steps.{firstAt, stepAt, laterAt}
 use Rattle.prediction.proofs.Predicted.{first-row-is, step-at, later-row-is}
 use Rattle.filter.specs.Filter.{weight, total, updated, predictedRow, filteredRow, likelihood, likelihoodCheck, loglikTo, answerAfter}

@@ -6,7 +6,7 @@ use native.Mathlib.Nat.{pow-suc, one-le-pow, mul-le-mul-right, one-mul, mul-comm
 use native.Mathlib.Omega.{arith}
 use lib.ListN.{length}
 use lib.Ieee.{Float}
-use Rattle.refusal.specs.Checks.{_before_, each}
+use Rattle.refusal.specs.Checks.{each}
 use Rattle.refusal.specs.declared.Check.{Check}
 use Rattle.refusal.specs.declared.Check.the-variants.{Passed, Failed}
 use Rattle.refusal.specs.declared.Refusal.{Refusal}
@@ -14,7 +14,7 @@ use Rattle.params.specs.declared.MsarParams.{MsarParams}
 use Rattle.params.specs.Parameters.{k, p}
 use Rattle.stationary.specs.Stationary.{solvedShares}
 use Rattle.stationary.specs.declared.Shares.{Shares}
-use Rattle.filter.specs.Filter.{likelihoodCheck, loglikTo, rowCount, startShares, runCheck, loglikOf, answerAfter, answerOf}
+use Rattle.filter.specs.Filter.{likelihoodCheck, loglikTo, startShares, runCheck, loglikOf, answerAfter, answerOf}
 use Rattle.filter.specs.Steps.{Held}
 use Rattle.filter.specs.declared.Answer.{Answer}
 

@@ -1,7 +1,6 @@
 // The filter over the rows of a series, in lent memory. What does not change along the series is made once, as tables.
 ghost use mathlib.Core.Path.{_≡_};
-ghost use mathlib.Core.List.{List};
-ghost use Prim.Native.Nat.{ℕ, suc, _+_, _*_, _^_, _<_, _≤_};
+ghost use Prim.Native.Nat.{suc, _+_, _*_, _^_, _<_, _≤_};
 ghost use lib.ListN.{length, drop, replicate};
 ghost use lib.Ieee.{Float};
 ghost use Rattle.number.specs.Number.{_⊘_, zero⁺};
@@ -12,7 +11,7 @@ ghost use Rattle.window.specs.Shape.{Shape, powersOf};
 ghost use Rattle.params.specs.declared.MsarParams.{MsarParams};
 ghost use Rattle.params.specs.Parameters.{k, p};
 ghost use Rattle.prediction.specs.Steps.{laterAt, stepAt};
-ghost use Rattle.filter.specs.Filter.{likelihoodCheck, loglikTo, rowCount, startShares, answerAfter, answerOf};
+ghost use Rattle.filter.specs.Filter.{likelihoodCheck, loglikTo, startShares, answerAfter, answerOf};
 ghost use Rattle.filter.specs.Steps.{windowsOf, Scales, Weighed, Held};
 use params::MsarParams;
 use refusal::Check;

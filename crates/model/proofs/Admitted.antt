@@ -6,7 +6,6 @@ use native.Mathlib.Omega.{arith}
 use borrow.Author.Tests.{ltb-false}
 use lib.ListN.{length}
 use lib.Ieee.{Float}
-use Rattle.refusal.specs.Checks.{_before_}
 use Rattle.refusal.specs.declared.Check.{Check}
 use Rattle.refusal.specs.declared.Check.the-variants.{Passed, Failed}
 use Rattle.refusal.proofs.Checks.{both, untrue}
@@ -14,10 +13,10 @@ use Rattle.spec.specs.declared.MsarSpec.{MsarSpec}
 use Rattle.window.specs.Shape.{Shape}
 use Rattle.params.specs.declared.MsarParams.{MsarParams}
 use Rattle.params.specs.Parameters.{k, p}
-use Rattle.binding.specs.Binding.{boundCheck, boundAfter, workNeed, tableNeed, memoryCheck, tablesCheck, paramsCheck, admittedCheck, admitted}
+use Rattle.binding.specs.Binding.{boundCheck, boundAfter, workNeed, tableNeed, memoryCheck, tablesCheck, admittedCheck, admitted}
 use Rattle.binding.specs.declared.Bound.{Bound}
 use Rattle.binding.specs.declared.Tables.{Tables}
-use Rattle.binding.proofs.Passed.{Fits, fits, same-shape}
+use Rattle.binding.proofs.Passed.{fits, same-shape}
 use Rattle.filter.specs.Steps.{windowsOf}
 
 pub record Admitted (S : MsarSpec) (y : List Float) (q : MsarParams) (lent : ℕ) (tables : Tables) (b : Bound) : Type 0 where

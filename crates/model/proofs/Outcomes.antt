@@ -1,6 +1,6 @@
--- The outcomes of the calls: refused, nothing touched; or what the run leaves. No second outcome satisfies a contract. Assumes nothing.
-use Prim.Native.Nat.{ℕ, _*_}
-use mathlib.Core.Path.{_≡_, sym, ap, _∙_}
+-- The outcomes of the calls: refused, nothing touched; or what the run leaves. Assumes nothing.
+use Prim.Native.Nat.{ℕ}
+use mathlib.Core.Path.{_≡_}
 use mathlib.Core.List.{List, []}
 use lib.ListN.{length}
 use lib.Ieee.{Float}

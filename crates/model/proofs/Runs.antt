@@ -24,7 +24,7 @@ use Rattle.filter.specs.Steps.{windowsOf, Held}
 use Rattle.filter.specs.declared.Answer.{Answer}
 use Rattle.smoother.specs.Smoother.{smoothedRow}
 use Rattle.smoother.specs.InMemory.{SmoothedRows}
-use Rattle.model.specs.Calls.{cleared, tableOf, written, filteredTable, smoothedTable}
+use Rattle.model.specs.Calls.{cleared, tableOf, filteredTable, smoothedTable}
 
 -- rows are two thirds of the memory needed
 pub rows-fit : (n m : ℕ) → 2 * n * m ≤ 3 * (n * m)

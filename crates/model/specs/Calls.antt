@@ -24,7 +24,7 @@ use Rattle.smoother.specs.Smoother.{smoothedRow}
 abbrev pub cleared : ℕ → List Float → List Float
 cleared need work = fillAt 0 (λ _. zero⁺) need work
 
--- a table of n · k results over its first places: the probabilities of the labels, row by row. What lies beyond them stays
+-- a table whose first n · k places are written anew with the probabilities of the labels, row by row; what lies beyond them stays
 abbrev pub tableOf : MsarParams → List Float → (ℕ → List Float) → List Float → List Float
 tableOf q y rows found = fillAt 0 (resultAt (k q) (p q) rows) (rowCount q y * k q) found
 

@@ -1,7 +1,7 @@
 // The model's calls on a series, in lent memory: log-likelihood, filter, smoother. Each binds afresh.
 ghost use mathlib.Core.Path.{_≡_};
 ghost use mathlib.Core.List.{[]};
-ghost use Prim.Native.Nat.{ℕ, _+_, _*_, _^_, _<_, _≤_};
+ghost use Prim.Native.Nat.{_+_, _*_, _^_, _<_, _≤_};
 ghost use lib.ListN.{length};
 ghost use Rattle.window.specs.Shape.{Shape};
 ghost use Rattle.params.specs.Parameters.{k, p};
@@ -16,6 +16,7 @@ use spec::MsarSpec;
 
 // ---- after the checks: n rows of m windows, power = k^order
 
+// Work memory is cleared after every run, refused or not.
 fn run_loglike(
     q: MsarParams,
     power: usize,

@@ -17,11 +17,11 @@ use Rattle.params.specs.Checks.{isProbability, columnSum, meanCheck, ent
 use Rattle.params.specs.Durations.{duration, durationsOf}
 
 -- an array whose first places are these, the others zero
-abbrev padded : ℕ → List Float → List Float
+abbrev pub padded : ℕ → List Float → List Float
 padded n l = l ++ replicate (n - length l) zero⁺
 
 -- the counts of means, transition, AR blocks, order, AR, variances; then the lists, the transition row by row
-abbrev params : ℕ → ℕ → ℕ → ℕ → ℕ → ℕ → List Float → List Float → List Float → List Float → MsarParams
+abbrev pub params : ℕ → ℕ → ℕ → ℕ → ℕ → ℕ → List Float → List Float → List Float → List Float → MsarParams
 params k t b p a v transition means ar variances =
     record {
       transition = padded 256 transition;
@@ -46,10 +46,10 @@ three-quarters = float 0x3FE8_0000_0000_0000
 abbrev steps : List Float
 steps = three-quarters ∷ zero⁺ ∷ quarter ∷ one ∷ []
 
-abbrev means : List Float
+abbrev pub means : List Float
 means = zero⁺ ∷ one ∷ []
 
-abbrev variances : List Float
+abbrev pub variances : List Float
 variances = one ∷ []
 
 pub record Values : Type 0 where

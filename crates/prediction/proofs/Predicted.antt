@@ -2,8 +2,7 @@
 use Prim.Native.Nat.{ℕ, suc, _+_, _*_, _/_, _^_, _<_}
 use mathlib.Core.Path.{_≡_, sym, ap, _∙_}
 use mathlib.Core.List.{List}
-use native.Mathlib.Nat.{pow-suc, mul-comm, zero-add}
-use native.Mathlib.Omega.{arith}
+use native.Mathlib.Nat.{pow-suc, mul-comm}
 use lib.Ieee.{Float}
 use Rattle.number.specs.Number.{_⊗_}
 use Rattle.number.specs.Table.{_!_, fillAt}

@@ -1,7 +1,7 @@
 // The predictions of the windows, row by row. A step's probability does not change along the series: it stands in a
 // table by window. The sum over predecessors is made once for the k windows that share it.
 ghost use mathlib.Core.Path.{_≡_};
-ghost use Prim.Native.Nat.{ℕ, suc, _+_, _*_, _^_, _<_, _≤_};
+ghost use Prim.Native.Nat.{suc, _+_, _*_, _^_, _<_, _≤_};
 ghost use lib.ListN.{length, replicate};
 ghost use Rattle.number.specs.Number.{_⊗_, zero⁺};
 ghost use Rattle.number.specs.Table.{_!_, fillAt};

@@ -1,14 +1,13 @@
 -- Rows and the probabilities that they give: what stands at a place of a row, and that only the first m places count. Assumes nothing.
-use Prim.Native.Nat.{ℕ, zero, suc, _+_, _*_, _/_, _%_, _^_, _<_, _≤_}
-use mathlib.Core.Path.{_≡_, sym, _∙_}
-use mathlib.Core.List.{List, _∷_}
+use Prim.Native.Nat.{ℕ, suc, _+_, _*_, _/_, _%_, _^_, _<_}
+use mathlib.Core.Path.{_≡_, _∙_}
+use mathlib.Core.List.{List}
 use native.Mathlib.Nat.{pow-suc, mod-lt, div-lt-iff-lt-mul}
 use native.Mathlib.Omega.{arith}
 use lib.Arith.{digits-lt}
 use lib.ListN.{drop}
 use lib.Ieee.{Float, nan}
-use Rattle.number.specs.Sums.{sumUp}
-use Rattle.number.specs.Table.{_!_, tab}
+use Rattle.number.specs.Table.{_!_}
 use Rattle.number.proofs.Sums.{sum-ext}
 use Rattle.number.proofs.Table.{getD-tab}
 use Rattle.window.specs.Windows.{number, labels}

@@ -1,6 +1,6 @@
 // Rows of window weights in lent memory: storing them, clearing them, and the probabilities of the labels.
 ghost use mathlib.Core.Path.{_≡_};
-ghost use Prim.Native.Nat.{ℕ, _+_, _*_, _<_, _≤_};
+ghost use Prim.Native.Nat.{_+_, _*_, _<_, _≤_};
 ghost use lib.ListN.{length, drop};
 ghost use Rattle.number.specs.Number.{zero⁺};
 ghost use Rattle.number.specs.Table.{_!_, fillAt};

@@ -1,9 +1,8 @@
 use Prim.Native.Nat.{_-_}
 use mathlib.Core.Path.{_≡_, ap, _∙_}
 use Prim.Native.Nat.{_+_}
-use lib.ListN.{length}
 use native.Mathlib.Omega.{arith}
-use borrow.Author.Needs.{needs, scaled-fits}
+use borrow.Author.Needs.{needs}
 use Rattle.number.proofs.Table.{fill-long}
 use Rattle.window.specs.declared.Time.{Time}
 use Rattle.window.proofs.Table.{order-at-most-7}
