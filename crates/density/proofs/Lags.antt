@@ -15,7 +15,7 @@ use Rattle.density.specs.Steps.{laggedAt}
 use Rattle.density.proofs.Rows.{fillAt-front}
 
 -- whole blocks leave the label now as it is
-block-label : (k step s b : ℕ) → step % k ≡ 0 → (s * step + b) % k ≡ b % k
+pub block-label : (k step s b : ℕ) → step % k ≡ 0 → (s * step + b) % k ≡ b % k
 block-label k step s b z =
     let w : step / k * k ≡ step = omega (arith, div-add-mod' step k, z) in
     let v : s * step + b ≡ s * (step / k) * k + b = rw (mul-assoc, w) in

@@ -1,10 +1,10 @@
 -- rows filled in part: by their own numbers, in front of a filled part, again and again
-mod Rows
+pub mod Rows
 -- deviations and their logarithms
 mod Tables
 -- one lag more, block by block
-mod Lags
+pub mod Lags
 -- the means of a row, lag by lag
-mod Means
+pub mod Means
 -- what is weighed by the tables is prediction × density
 pub mod Weights

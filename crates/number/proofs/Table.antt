@@ -1,14 +1,15 @@
 -- Laws of rows and tables: a list that is filled in part, followed one store further, and that a table's places lie within 256. Assumes nothing.
 use Prim.Native.Nat.{ℕ, zero, suc, _+_, _-_, _*_, _<_, _≤_}
 use mathlib.Core.Path.{_≡_, refl, sym, ap, _∙_, subst}
-use mathlib.Core.Logic.{⊎-elim}
+use mathlib.Core.Logic.{_≢_, ⊎-elim}
 use mathlib.Core.List.{List, [], _∷_, _++_, append-assoc, append-nil, List·Memᴰ, List·Memᴰ·head, List·Memᴰ·not-nil, List·Memᴰ·append-cases, List·Memᴰ·eq-of-singleton, Memᴰ·append-left, Memᴰ·append-right}
 use native.Mathlib.Numerals.{add-one}
-use native.Mathlib.Nat.{zero-add, add-zero, add-suc, mul-le-mul, mul-le-mul-right, suc-mul, le-of-suc-le-suc, not-suc-le-zero, eq-or-lt-of-le}
+use native.Mathlib.Nat.{zero-add, add-zero, add-suc, mul-le-mul, mul-le-mul-right, suc-mul, le-of-suc-le-suc, not-suc-le-zero, eq-or-lt-of-le, lt-of-not-le}
+use native.Mathlib.Decide.{decLe, ℕ-discrete}
 use native.Mathlib.Omega.{arith}
 use lib.Arith.{digits-lt}
-use lib.ListN.{length, getD, set, take, drop, length-append, length-drop, length-take, take-append-drop, List·getD-append}
-use lib.Seq.{length-take-le, drop-cons, set-at, getD-append-add, getD-at, getD-drop, getD-take, set-append-left, take-set-lt, drop-set-lt, drop-append-add, drop-drop, take-at}
+use lib.ListN.{length, getD, set, take, drop, length-set, length-append, length-drop, length-take, take-append-drop, List·getD-append}
+use lib.Seq.{length-take-le, drop-cons, set-at, getD-append-add, getD-at, getD-drop, getD-take, set-append-left, take-set-lt, drop-set-lt, drop-append-add, drop-drop, take-at, ext-getD, getD-set-same, getD-set-other}
 use lib.Ieee.{Float, nan}
 use Rattle.number.specs.Table.{_!_, tab, fillAt}
 
@@ -172,3 +173,32 @@ fill-at f n l {m} e i h = subst (λ (j : ℕ). m ! j ≡ f i) (zero-add i) (fill
 
 pub fill-long : (f : ℕ → Float) (n : ℕ) (l : List Float) {m : List Float} → m ≡ fillAt 0 f n l → n ≤ length l → length m ≡ length l
 fill-long f n l e h = fillAt-long 0 f n l e (omega arith)
+
+-- a list is so filled if it is in its places
+pub fill-is : (f : ℕ → Float) (n : ℕ) (l : List Float) {m : List Float} → n ≤ length l → length m ≡ length l → ((i : ℕ) → i < n → m ! i ≡ f i)
+    → ((i : ℕ) → n ≤ i → m ! i ≡ l ! i)
+    → m ≡ fillAt 0 f n l
+fill-is f n l {m} h e inside past =
+    ext-getD nan m (fillAt 0 f n l) (e ∙ sym (fill-long f n l refl h))
+    (λ i _.
+    elim (decLe n i) [
+      | yes k ↦ past i k ∙ sym (fillAt-past 0 f n l refl i (omega arith) (omega arith))
+      | no k ↦ (let b : i < n = lt-of-not-le k in inside i b ∙ sym (fill-at f n l refl i b))
+    ])
+
+pub fill-self : (n : ℕ) (l : List Float) → n ≤ length l → l ≡ fillAt 0 (λ i. l ! i) n l
+fill-self n l h = fill-is _ n l h refl (λ i _. refl) (λ i _. refl)
+
+-- a store at a place c that is filled: from f to g, which has the new value there and is f elsewhere
+pub fill-set : (f g : ℕ → Float) (n : ℕ) (l : List Float) {m : List Float} → m ≡ fillAt 0 f n l → (c : ℕ) → c < n → n ≤ length l → {v : Float} → v ≡ g c
+    → ((i : ℕ) → i < n → i ≢ c → f i ≡ g i)
+    → set m c v ≡ fillAt 0 g n l
+fill-set f g n l {m} e c h k {v} d other =
+    let long : length m ≡ length l = fill-long f n l e k in
+    fill-is g n l k (length-set m c v ∙ long)
+    (λ i b.
+    elim (ℕ-discrete i c) [
+      | yes q ↦ subst (λ (j : ℕ). set m c v ! j ≡ g j) (sym q) (getD-set-same m c v nan (omega arith) ∙ d)
+      | no q ↦ getD-set-other m c i v nan q ∙ fill-at f n l e i b ∙ other i b q
+    ])
+    (λ i b. getD-set-other m c i v nan (λ w. absurd (omega (arith, w))) ∙ fillAt-past 0 f n l e i (omega arith) (omega arith))

@@ -1,0 +1,81 @@
+use Rattle.coefficients.proofs.Parts.{place-still}
+use Rattle.number.proofs.Table.{fillAt-none, fillAt-more}
+use Rattle.number.specs.Table.{_!_, fillAt}
+use Rattle.number.specs.Number.{_⊕_, _⊗_}
+use Prim.Native.Nat.{_+_, _-_, _≤_}
+use mathlib.Core.Path.{_≡_}
+use native.Mathlib.Omega.{arith}
+use borrow.Author.Needs.{needs}
+use Rattle.coefficients.proofs.add_products.Statement.{statement}
+use Rattle.coefficients.proofs.add_products.Tie as tie
+use Rattle.coefficients.proofs.add_products.Reads as reads
+use Rattle.coefficients.proofs.add_products.Lts as lts
+
+abbrev Inv-loop : tie.InvT-loop
+Inv-loop tables₀ at order f x c₀ tables c = (c ≤ order) × (tables ≡ fillAt at (λ c. tables₀ ! (at + c) ⊕ f ⊗ x ! (c + 1)) c tables₀)
+
+abbrev μ-loop : tie.MeasureT-loop
+μ-loop tables₀ at order f x c₀ tables c = order - c
+
+loop-holds : tie.Need-loop-holds Inv-loop μ-loop
+loop-holds c = (omega arith, fillAt-none _ _ _)
+
+add-tables : tie.Need-add-tables Inv-loop μ-loop
+add-tables c = search needs
+
+mul-tables : tie.Need-mul-tables Inv-loop μ-loop
+mul-tables c = search needs
+
+element-copy-out-tables : tie.Need-element-copy-out-tables Inv-loop μ-loop
+element-copy-out-tables c = search needs
+
+add-tables-2 : tie.Need-add-tables-2 Inv-loop μ-loop
+add-tables-2 c = search needs
+
+mul-tables-2 : tie.Need-mul-tables-2 Inv-loop μ-loop
+mul-tables-2 c = search needs
+
+element-copy-out-tables-2 : tie.Need-element-copy-out-tables-2 Inv-loop μ-loop
+element-copy-out-tables-2 c = search needs
+
+add-tables-3 : tie.Need-add-tables-3 Inv-loop μ-loop
+add-tables-3 c = search needs
+
+mul-tables-3 : tie.Need-mul-tables-3 Inv-loop μ-loop
+mul-tables-3 c = search needs
+
+element-write-tables : tie.Need-element-write-tables Inv-loop μ-loop
+element-write-tables c = search needs
+
+add-c : tie.Need-add-c Inv-loop μ-loop
+add-c c = search needs
+
+loop-less : tie.Need-loop-less Inv-loop μ-loop
+loop-less c = search needs
+
+loop-again : tie.Need-loop-again Inv-loop μ-loop
+loop-again c = (omega arith, fillAt-more _ _ _ _ (c .before .before .before .loop .inv .1) (place-still _ _ _ _ _ (c .before .before .before .loop .inv .1) (omega arith)) (omega arith))
+
+returns : tie.Need-returns Inv-loop μ-loop
+returns c = let e : c .before .loop .c ≡ c .before .before .args .order = omega arith in rw e at (c .before .loop .inv .1)
+
+pub add-products-spec : {M : Type 1} → statement M
+add-products-spec =
+    tie.close
+    (tie.spec
+    Inv-loop
+    μ-loop
+    loop-holds
+    add-tables
+    mul-tables
+    element-copy-out-tables
+    add-tables-2
+    mul-tables-2
+    element-copy-out-tables-2
+    add-tables-3
+    mul-tables-3
+    element-write-tables
+    add-c
+    loop-less
+    loop-again
+    returns)

@@ -1,0 +1,60 @@
+use Rattle.coefficients.proofs.Parts.{window-table, window-side}
+use Rattle.coefficients.specs.Steps.{distanceOf}
+use Rattle.coefficients.proofs.Walk.{block-below}
+use Rattle.number.specs.Number.{zero⁺}
+use Prim.Native.Nat.{zero, _-_, _<_}
+use native.Mathlib.Omega.{arith}
+use borrow.Author.Needs.{needs}
+use lib.ListN.{replicate}
+use Rattle.coefficients.proofs.weigh_window.Statement.{statement}
+use Rattle.coefficients.proofs.weigh_window.Tie as tie
+use Rattle.coefficients.proofs.weigh_window.Reads as reads
+use Rattle.coefficients.proofs.weigh_window.Lts as lts
+use Rattle.coefficients.proofs.add_window.Reads as add-window-reads
+use Rattle.coefficients.proofs.block_of.Reads as block-of-reads
+use Rattle.coefficients.proofs.distances.Reads as distances-reads
+
+own-small : (c : tie.After-block-of) → c .block-of .result < 16
+own-small c = rw (c .block-of .ensures) (block-below (c .before .before .before .before .before .args .count) (c .before .before .before .before .before .args .s) 16 (c .before .before .before .before .before .pre .0))
+
+distances-requires : tie.Need-distances-requires
+distances-requires c κs = search needs
+
+block-of-requires : tie.Need-block-of-requires
+block-of-requires c κs = search needs
+
+block-of-requires-2 : tie.Need-block-of-requires-2
+block-of-requires-2 c κs = search needs
+
+mul-add-window : tie.Need-mul-add-window
+mul-add-window c = omega (arith, own-small (c .before .before .before))
+
+element-copy-out-add-window : tie.Need-element-copy-out-add-window
+element-copy-out-add-window c = own-small (c .before .before .before)
+
+add-window-requires : tie.Need-add-window-requires
+add-window-requires c κs = let at = c .before .before .before .before .before .before .before .before .before .before in (at .pre .4, at .pre .5, rw (c .before .before .before .before .block-of2 .ensures) (block-below (at .args .blocks) (at .args .s) 16 (at .pre .0)), at .pre .6, at .pre .7)
+
+returns : tie.Need-returns
+returns c =
+    let at = c .before .before .before .before .before .before .before .before .before .before .before in
+    let d = distanceOf (at .args .y .now) (at .args .t) (at .args .centres .now) (at .args .base) in (
+      window-table (at .args .order) (at .pre .4) (at .args .g) (at .args .s) (at .args .count) (at .args .blocks) (at .args .variances .now) d (replicate 8 zero⁺) (at .args .tables .now) (c .before .before .before .before .before .before .before .before .before .if1 .taken) (c .before .before .before .before .before .before .block-of .ensures) (c .before .before .before .before .before .block-of2 .ensures) (c .before .before .before .before .before .before .before .distances .ensures) (c .add-window .ensures .0),
+      window-side (at .args .order) (at .pre .4) (at .args .g) (at .args .s) (at .args .count) (at .args .blocks) (at .args .variances .now) d (replicate 8 zero⁺) (at .args .sides .now) (c .before .before .before .before .before .before .before .before .before .if1 .taken) (c .before .before .before .before .before .before .block-of .ensures) (c .before .before .before .before .before .block-of2 .ensures) (c .before .before .before .before .before .before .before .distances .ensures) (c .add-window .ensures .1),
+    )
+
+returns-2 : tie.Need-returns-2
+returns-2 c = (rw (c .if1 .left), rw (c .if1 .left))
+
+pub weigh-window-spec : {M : Type 1} → statement M
+weigh-window-spec =
+    tie.close
+    (tie.spec
+    distances-requires
+    block-of-requires
+    block-of-requires-2
+    mul-add-window
+    element-copy-out-add-window
+    add-window-requires
+    returns
+    returns-2)

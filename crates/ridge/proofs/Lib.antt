@@ -1,0 +1,6 @@
+-- the diagonal: its largest place, and the ridge
+pub mod Diagonal
+-- the two ways to an answer
+pub mod Answers
+-- no second outcome satisfies the contract
+pub mod Unique

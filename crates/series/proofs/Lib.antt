@@ -1,0 +1,4 @@
+-- the series of document 01's P9
+pub mod Examples
+-- no second outcome satisfies the contract
+pub mod Unique

@@ -1,0 +1,2 @@
+pub mod Smoothed
+pub mod Steps

@@ -1,0 +1,2 @@
+pub mod Variances
+pub mod Steps
