@@ -1,15 +1,6 @@
 // What the Rust answers to the records and specs of crates/refusals, in that program's lines. spec.rs and params.rs stand
-// beside this file when it is built, as they are.
-mod error {
-    #[derive(Debug)]
-    pub enum RegimeError {
-        InvalidParameter { name: &'static str, value: f64, requirement: &'static str },
-        InvalidSpec { what: &'static str },
-        DimensionMismatch { what: &'static str, expected: usize, actual: usize },
-        NotStochastic { column: usize, sum: f64 },
-        StateSpaceTooLarge { k_regimes: usize, order: usize, max_states: usize },
-    }
-}
+// beside this file when it is built, as they are, and error.rs is the stand-in of oracle/model.
+mod error;
 mod params;
 mod spec;
 

@@ -15,6 +15,6 @@ file=${2:-$here/../../crates/refusals/stdout}
 room=$(mktemp -d)
 trap 'rm -rf "$room"' EXIT
 
-cp "$1/spec.rs" "$1/params.rs" "$here/refusals.rs" "$room/"
+cp "$1/spec.rs" "$1/params.rs" "$here/refusals.rs" "$here/../model/standins/error.rs" "$room/"
 rustc --edition 2021 -O -A warnings -o "$room/refusals" "$room/refusals.rs"
 "$room/refusals" > "$file"

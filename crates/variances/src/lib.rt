@@ -53,7 +53,7 @@ fn lag_block(
     }
 }
 
-// One lag more: from the windows of so many labels, step of them, to those of one label more.
+// One lag more: from the step windows of some labels to the k * step windows of one label more.
 fn lag(
     row: &mut [f64; 256],
     phis: &[f64; 112],
