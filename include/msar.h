@@ -42,11 +42,12 @@ extern "C" {
       3 more than 16 regimes: k                        17 no AR block
       4 series too short: order + 1                    18 more than 16 means, or an order above 7: that number
       5 series too long: its length                    20 the parameters are not of the spec's shape
-      6 a reading is not finite: its index             21 a system of equations is singular: 0 for the shares
+      6 a reading is not finite: its index             21 a system of equations is singular: 0 shares, 1 means, 2 AR
       7 lent memory too short: the length needed       22 a share is not finite or below -1e-9: its label, its value
      10 fewer than 2 means: their number               23 a row's likelihood is not finite or not above 0: the row
-     11 a mean is not finite: its index, its value
-     12 a length is wrong: the length expected
+     11 a mean is not finite: its index, its value     24 a fit at order 0
+     12 a length is wrong: the length expected         25 a fit whose sample variance is not finite or not above 0: it
+                                                       26 a fit whose log-likelihood is not finite
      13 an entry of P is not finite, below 0 or above 1 + 1e-8: i*k + j, its value
      14 the sum of a column of P differs from 1 by more than 1e-8: its label, the sum */
 
@@ -75,8 +76,9 @@ bool msar_matches(size_t k, size_t order, bool switching_ar, bool switching_vari
    work: at least 3*n*m numbers, whatever they are; its first 3*n*m are +0 afterwards. filtered and smoothed: at least n*k
    numbers each; P(label of row i is j) is written at i*k + j. What lies beyond these places is left as found. The checks
    come in this order: spec (1 to 3), series (4 to 6), lent memory (7: work, then the tables in their order), parameters
-   (10 to 18), shape (20). Where one of these refuses, all lent memory is left as found; where 21, 22 or 23 refuses, the
-   tables are left as found and work is cleared.
+   (10 to 18), shape (20), and for a fit 24 and 25. Where one of these refuses, all lent memory is left as found; where the
+   run itself refuses (21 to 23, 26, and in a fit's own steps 11 and 13 to 16), the tables are left as found and work is
+   cleared.
 
    At order 0 the calls follow the Rust they were ported from: every prediction but the first is column 0 of P, whatever
    came before, and the smoothed numbers are no probabilities: a row may total more than 1 and run to infinity or NaN. */
@@ -96,6 +98,16 @@ void msar_smooth(size_t k, size_t order, bool switching_ar, bool switching_varia
                  size_t series_len, const size_t counts[6], const double numbers[400], double *work, size_t work_len,
                  double *filtered, size_t filtered_len, double *smoothed, size_t smoothed_len, size_t whole[4],
                  double real[2]);
+
+/* A fit by EM from the parameters in numbers: at most max_iter passes, then a closing one at the parameters reached. From
+   the second pass on it stops as converged where the log-likelihood gained at most tol; a NaN tol never stops it. smoothed:
+   the probabilities of the labels given all readings, under the parameters reached. fitted[400]: these, laid out as numbers
+   and with the same counts, unused places +0; as found on a refusal. iterations: the passes begun, the stopping one
+   included. With max_iter 0 the parameters are the start's. The log-likelihood is the closing pass's. */
+void msar_fit(size_t k, size_t order, bool switching_ar, bool switching_variance, const double *series,
+              size_t series_len, const size_t counts[6], const double numbers[400], double *work, size_t work_len,
+              double *smoothed, size_t smoothed_len, size_t max_iter, double tol, double fitted[400], size_t whole[4],
+              double real[2]);
 
 /* ---- elementary functions; they write no memory */
 

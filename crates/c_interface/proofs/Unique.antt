@@ -12,7 +12,8 @@ use Rattle.params.specs.Checks.{parameterCheck}
 use Rattle.params.specs.Durations.{durationsOf}
 use Rattle.stationary.specs.Stationary.{sharesOf}
 use Rattle.model.specs.Calls.{loglikeCall, filterCall, smoothCall}
-use Rattle.c_interface.specs.Interface.{specOf, paramsOf, Spelled, spelled, windowsSpelled, Listed, durationsListed, sharesListed, Left, left}
+use Rattle.fit.specs.Calls.{fitCall}
+use Rattle.c_interface.specs.Interface.{specOf, paramsOf, Spelled, spelled, windowsSpelled, Listed, durationsListed, sharesListed, Left, left, FitLeft, fitLeft}
 
 pub windows-unique : (k order : ℕ) (a b : Spelled) → a ≡ windowsSpelled (windowCount k order) → b ≡ windowsSpelled (windowCount k order) → a ≡ b
 windows-unique k order a b = one-outcome
@@ -45,3 +46,8 @@ module _ (counts : List ℕ) (numbers : List Float) where
       pub smooth-unique : (filtered smoothed : List Float) → a ≡ left (smoothCall (specOf k order switchingAr switchingVariance) series (paramsOf counts numbers) work filtered smoothed)
           → b ≡ left (smoothCall (specOf k order switchingAr switchingVariance) series (paramsOf counts numbers) work filtered smoothed) → a ≡ b
       smooth-unique filtered smoothed = one-outcome
+
+    pub fit-unique : (series work smoothed : List Float) (maxIter : ℕ) (tol : Float) (found : List Float) (a b : FitLeft)
+        → a ≡ fitLeft (fitCall (specOf k order switchingAr switchingVariance) series (paramsOf counts numbers) maxIter tol work smoothed) found
+        → b ≡ fitLeft (fitCall (specOf k order switchingAr switchingVariance) series (paramsOf counts numbers) maxIter tol work smoothed) found → a ≡ b
+    fit-unique series work smoothed maxIter tol found a b = one-outcome

@@ -1,12 +1,12 @@
 -- The C interface: the records that its arrays stand for, and how an answer is spelled in them.
 -- After include/msar.h, which says the same in C, and document 01, "Refusals by number".
 use Prim.Native.Nat.{ℕ, _+_}
-use mathlib.Core.Bool.{Bool}
+use mathlib.Core.Bool.{Bool, true, false}
 use mathlib.Core.List.{List, [], _∷_}
-use lib.ListN.{getD}
+use lib.ListN.{getD, replicate}
 use lib.Ieee.{Float}
 use Rattle.number.specs.Number.{zero⁺}
-use Rattle.number.specs.Table.{_!_, tab}
+use Rattle.number.specs.Table.{_!_, tab, fillAt}
 use Rattle.refusal.specs.Refusals.{said}
 use Rattle.refusal.specs.declared.Check.{Check}
 use Rattle.refusal.specs.declared.Check.the-variants.{Passed, Failed}
@@ -17,6 +17,8 @@ use Rattle.params.specs.declared.MsarParams.{MsarParams}
 use Rattle.params.specs.declared.Durations.{Durations}
 use Rattle.stationary.specs.declared.Shares.{Shares}
 use Rattle.model.specs.Calls.{Outcome}
+use Rattle.fit.specs.declared.Fitted.{Fitted}
+use Rattle.fit.specs.Calls.{FitOutcome}
 
 -- ---- what is handed in
 
@@ -96,3 +98,45 @@ unfoldable pub left : Outcome → Left
 left o =
     let told = spelled (o .answer .check) 0 (o .answer .loglik) in
     record { whole = told .whole; real = told .real; work = o .work; filtered = o .filtered; smoothed = o .smoothed }
+
+-- ---- a fit: its parameters too, laid out as they are handed in
+
+-- from 0 on the transition table, from 256 on the means, from 272 on the AR coefficients, from 384 on the variances
+unfoldable pub laidOut : MsarParams → List Float
+laidOut q =
+    fillAt 384 (λ i. q .variances ! i) 16
+    (fillAt 272 (λ i. q .ar ! i) 112
+    (fillAt 256 (λ i. q .means ! i) 16
+    (fillAt 0 (λ i. q .transition ! i) 256 (replicate 400 zero⁺))))
+
+abbrev pub flag : Bool → ℕ
+flag true = 1
+flag false = 0
+
+-- a fit that was answered also says its iterations, and 1 where it converged
+abbrev pub fitSpelled : Check → Fitted → Spelled
+fitSpelled Passed f = record { whole = 0 ∷ 0 ∷ f .iterations ∷ flag (f .converged) ∷ []; real = zero⁺ ∷ f .loglik ∷ [] }
+fitSpelled (Failed r) f = spelled (Failed r) 0 zero⁺
+
+-- a refusal leaves the 400 numbers as found
+abbrev pub numbersAfter : Check → MsarParams → List Float → List Float
+numbersAfter Passed q found = laidOut q
+numbersAfter (Failed r) q found = found
+
+pub record FitLeft : Type 0 where
+  pub whole : List ℕ
+  pub real : List Float
+  pub work : List Float
+  pub smoothed : List Float
+  pub fitted : List Float
+
+unfoldable pub fitLeft : FitOutcome → List Float → FitLeft
+fitLeft o found =
+    let f = o .answer in
+    record {
+      whole = fitSpelled (f .check) f .whole;
+      real = fitSpelled (f .check) f .real;
+      work = o .work;
+      smoothed = o .smoothed;
+      fitted = numbersAfter (f .check) (f .params) found;
+    }

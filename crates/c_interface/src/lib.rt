@@ -13,7 +13,8 @@ ghost use Rattle.params.specs.Checks.{parameterCheck};
 ghost use Rattle.params.specs.Durations.{durationsOf};
 ghost use Rattle.stationary.specs.Stationary.{sharesOf};
 ghost use Rattle.model.specs.Calls.{loglikeCall, filterCall, smoothCall};
-ghost use Rattle.c_interface.specs.Interface.{specOf, paramsOf, Spelled, spelled, windowsSpelled, Listed, durationsListed, sharesListed, Left, left};
+ghost use Rattle.fit.specs.Calls.{fitCall};
+ghost use Rattle.c_interface.specs.Interface.{specOf, paramsOf, Spelled, spelled, windowsSpelled, Listed, durationsListed, sharesListed, Left, left, FitLeft, fitLeft};
 use spec::MsarSpec;
 
 mod given;
@@ -106,6 +107,47 @@ pub extern "C" fn msar_smooth(
     let answer = model::smooth(s, series, q, work, filtered, smoothed);
     let check = answer.check;
     told::spell(check, 0, answer.loglik, whole, real);
+}
+
+// The parameters that EM reaches, and the probabilities of the labels given all readings under them.
+#[no_mangle]
+pub extern "C" fn msar_fit(
+    k: usize,
+    order: usize,
+    switching_ar: bool,
+    switching_variance: bool,
+    series: &[f64],
+    counts: &[usize; 6],
+    numbers: &[f64; 400],
+    work: &mut [f64],
+    smoothed: &mut [f64],
+    max_iter: usize,
+    tol: f64,
+    fitted: &mut [f64; 400],
+    whole: &mut [usize; 4],
+    real: &mut [f64; 2],
+)
+    ensures { λ _. ⌜ record { whole = now (whole .exit); real = now (real .exit); work = now (work .exit); smoothed = now (smoothed .exit); fitted = now (fitted .exit) } ≡ fitLeft (fitCall (specOf k order «switching_ar» «switching_variance») (now (series .entry)) (paramsOf (now (counts .entry)) (now (numbers .entry))) «max_iter» tol (now (work .entry)) (now (smoothed .entry))) (now (fitted .entry)) ⌝ }
+{
+    let s = MsarSpec {
+        k_regimes: k,
+        order,
+        switching_ar,
+        switching_variance,
+    };
+    let start = given::params_of(counts, numbers);
+    let answer = fit::fit(s, series, start, max_iter, tol, work, smoothed);
+    let check = answer.check;
+    let params = answer.params;
+    told::lay_out(check, params, fitted);
+    told::spell_fit(
+        check,
+        answer.loglik,
+        answer.iterations,
+        answer.converged,
+        whole,
+        real,
+    );
 }
 
 // ---- calls on a spec or on parameters alone

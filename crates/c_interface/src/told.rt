@@ -2,7 +2,12 @@
 ghost use mathlib.Core.Path.{_≡_};
 ghost use Rattle.number.specs.Number.{zero⁺};
 ghost use Rattle.refusal.specs.declared.Check.the-variants.{Failed};
-ghost use Rattle.c_interface.specs.Interface.{Spelled, spelled, windowsSpelled, Listed, listed};
+ghost use Prim.Native.Nat.{_+_, _≤_};
+ghost use lib.ListN.{length};
+ghost use Rattle.number.specs.Table.{_!_, fillAt};
+ghost use Rattle.fit.specs.declared.Fitted.{Fitted};
+ghost use Rattle.c_interface.specs.Interface.{Spelled, spelled, windowsSpelled, Listed, listed, laidOut, flag, fitSpelled, numbersAfter};
+use params::MsarParams;
 use refusal::Check;
 use refusal::Refusal;
 use spec::Windows;
@@ -53,5 +58,69 @@ pub fn list(
             spell(Check::Passed, 0, 0.0, whole, real);
         }
         Check::Failed(r) => refuse(r, whole, real),
+    }
+}
+
+// ---- a fit
+
+fn flag(b: bool) -> usize
+    ensures { λ r. ⌜ r ≡ flag b ⌝ }
+{
+    if b {
+        return 1;
+    }
+    0
+}
+
+// An answer with its iterations and whether it converged, or the refusal.
+pub fn spell_fit(
+    check: Check,
+    loglik: f64,
+    iterations: usize,
+    converged: bool,
+    whole: &mut [usize; 4],
+    real: &mut [f64; 2],
+)
+    ensures { λ _. ⌜ ((f : Fitted) → f .loglik ≡ loglik → f .iterations ≡ iterations → f .converged ≡ converged → record { whole = now (whole .exit); real = now (real .exit) } ≡ fitSpelled check f) ⌝ }
+{
+    match check {
+        Check::Passed => {
+            *whole = [0, 0, iterations, flag(converged)];
+            *real = [0.0, loglik];
+        }
+        Check::Failed(r) => refuse(r, whole, real),
+    }
+}
+
+// The first n places of a part, from place `start` on.
+fn put(numbers: &mut [f64; 400], start: usize, part: &[f64], n: usize)
+    requires { ⌜ (start + n ≤ 400) × (n ≤ length (now part)) × (length (now numbers) ≡ 400) ⌝ }
+    ensures { λ _. ⌜ now (numbers .exit) ≡ fillAt start (λ i. now (part .entry) ! i) n (now (numbers .entry)) ⌝ }
+{
+    for i in 0..n {
+        numbers[start + i] = part[i];
+    }
+}
+
+fn laid(q: MsarParams) -> [f64; 400]
+    ensures { λ r. ⌜ r ≡ laidOut q ⌝ }
+{
+    let mut numbers = [0.0; 400];
+    put(&mut numbers, 0, &q.transition, 256);
+    put(&mut numbers, 256, &q.means, 16);
+    put(&mut numbers, 272, &q.ar, 112);
+    put(&mut numbers, 384, &q.variances, 16);
+    numbers
+}
+
+// The parameters, where there is no refusal.
+pub fn lay_out(check: Check, q: MsarParams, numbers: &mut [f64; 400])
+    ensures { λ _. ⌜ now (numbers .exit) ≡ numbersAfter check q (now (numbers .entry)) ⌝ }
+{
+    match check {
+        Check::Passed => {
+            *numbers = laid(q);
+        }
+        Check::Failed(_) => {}
     }
 }

@@ -1,0 +1,76 @@
+use lib.ListN.{length-set}
+use Rattle.number.specs.Table.{_!_, fillAt}
+use Rattle.number.proofs.Table.{fillAt-none, fillAt-more}
+use Prim.Native.Nat.{ℕ, zero, suc, _+_, _*_, _-_, _/_, _%_, _^_, _<_, _≤_}
+use mathlib.Core.Path.{_≡_, refl, sym, ap, subst, _∙_}
+use mathlib.Core.List.{List, [], _∷_, _++_}
+use native.Mathlib.Omega.{arith}
+use borrow.Author.Needs.{needs, scaled-fits}
+use lib.ListN.{length, getD, set, replicate, take, drop}
+use Rattle.c_interface.proofs.told.put.Statement.{statement}
+use Rattle.c_interface.proofs.told.put.Tie as tie
+use Rattle.c_interface.proofs.told.put.Reads as reads
+use Rattle.c_interface.proofs.told.put.Lts as lts
+
+abbrev Inv-loop : tie.InvT-loop
+Inv-loop numbers₀ start part n i₀ numbers i = (i ≤ n) × (length numbers ≡ 400) × (numbers ≡ fillAt start (λ j. part ! j) i numbers₀)
+
+abbrev μ-loop : tie.MeasureT-loop
+μ-loop numbers₀ start part n i₀ numbers i = n - i
+
+-- src/told.rt:100:5
+loop-holds : tie.Need-loop-holds Inv-loop μ-loop
+loop-holds c = (omega arith, c .pre .2, fillAt-none _ _ _)
+
+-- src/told.rt:101:30
+mul-numbers : tie.Need-mul-numbers Inv-loop μ-loop
+mul-numbers c = search needs
+
+-- src/told.rt:101:30
+shared-slice-read-numbers : tie.Need-shared-slice-read-numbers Inv-loop μ-loop
+shared-slice-read-numbers c = search needs
+
+-- src/told.rt:101:17
+add-numbers : tie.Need-add-numbers Inv-loop μ-loop
+add-numbers c = search needs
+
+-- src/told.rt:101:9
+mul-numbers-2 : tie.Need-mul-numbers-2 Inv-loop μ-loop
+mul-numbers-2 c = search needs
+
+-- src/told.rt:101:9
+element-write-numbers : tie.Need-element-write-numbers Inv-loop μ-loop
+element-write-numbers c = search needs
+
+-- src/told.rt:100:9
+add-i : tie.Need-add-i Inv-loop μ-loop
+add-i c = search needs
+
+-- src/told.rt:100:5
+loop-less : tie.Need-loop-less Inv-loop μ-loop
+loop-less c = search needs
+
+-- src/told.rt:100:5
+loop-again : tie.Need-loop-again Inv-loop μ-loop
+loop-again c = (omega arith, simp length-set (c .before .before .loop .inv .1), fillAt-more _ _ _ _ (c .before .before .loop .inv .2) refl (omega arith))
+
+-- src/told.rt:96:1
+returns : tie.Need-returns Inv-loop μ-loop
+returns c = let e : c .before .loop .i ≡ c .before .before .args .n = omega arith in rw e at (c .before .loop .inv .2)
+
+pub put-spec : {M : Type 1} → statement M
+put-spec =
+    tie.close
+    (tie.spec
+    Inv-loop
+    μ-loop
+    loop-holds
+    mul-numbers
+    shared-slice-read-numbers
+    add-numbers
+    mul-numbers-2
+    element-write-numbers
+    add-i
+    loop-less
+    loop-again
+    returns)

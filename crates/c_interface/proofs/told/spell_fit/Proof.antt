@@ -1,0 +1,41 @@
+use Rattle.c_interface.proofs.Spelling.{fit-said, fit-refused-said}
+use Prim.Native.Nat.{ℕ, zero, suc, _+_, _*_, _-_, _/_, _%_, _^_, _<_, _≤_}
+use mathlib.Core.Path.{_≡_, refl, sym, ap, subst, _∙_}
+use mathlib.Core.List.{List, [], _∷_, _++_}
+use native.Mathlib.Omega.{arith}
+use borrow.Author.Needs.{needs, scaled-fits}
+use lib.ListN.{length, getD, set, replicate, take, drop}
+use Rattle.c_interface.proofs.told.spell_fit.Statement.{statement}
+use Rattle.c_interface.proofs.told.spell_fit.Tie as tie
+use Rattle.c_interface.proofs.told.spell_fit.Reads as reads
+use Rattle.c_interface.proofs.told.spell_fit.Lts as lts
+use Rattle.c_interface.proofs.told.flag.Reads as flag-reads
+use Rattle.c_interface.proofs.told.refuse.Reads as refuse-reads
+
+-- src/told.rt:88:41
+enum-told : tie.Need-enum-told
+enum-told c = search needs
+
+-- src/told.rt:88:41
+flag-requires : tie.Need-flag-requires
+flag-requires c κs = search needs
+
+-- src/told.rt:91:23
+enum-known-check : tie.Need-enum-known-check
+enum-known-check c = search needs
+
+-- src/told.rt:91:29
+refuse-requires : tie.Need-refuse-requires
+refuse-requires c κs = search needs
+
+-- src/told.rt:76:1
+returns : tie.Need-returns
+returns c = λ f l i d. fit-said f (c .before .before .before .enum-told .given .1) (c .before .before .flag .ensures) l i d
+
+-- src/told.rt:76:1
+returns-2 : tie.Need-returns-2
+returns-2 c = λ f l i d. fit-refused-said f (c .before .before .before .before .check .given .1) (c .refuse .ensures)
+
+pub spell-fit-spec : {M : Type 1} → statement M
+spell-fit-spec =
+    tie.close (tie.spec enum-told flag-requires enum-known-check refuse-requires returns returns-2)
