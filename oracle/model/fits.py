@@ -308,8 +308,12 @@ def every_pair(r):
         yield with_passes(r, gen.with_flags(r, k, p, sar, svar))
 
 
+def no_entry(r, c):
+    gen.spoil(r, c.trans, NAN)
+
+
 def every_fault(r):
-    for fault in gen.FAULTS + [gen.many_readings]:
+    for fault in gen.FAULTS + [gen.many_readings, no_entry]:
         c = gen.benign(r, 3, 2, length=8)
         fault(r, c)
         yield with_passes(r, c)
