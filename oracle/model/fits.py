@@ -29,7 +29,8 @@ def with_passes(r, c, passes=None):
 
 EVEN = [[0.75, 0.25], [0.25, 0.75]]
 KNOWN = [  # columns, means, AR coefficients, variances, readings, passes
-    # 11: sensitivities of 1e300 make the means' equations infinite and keep them, the next ones have a NaN
+    # 11: a coefficient of -1e300 makes the means' right side infinite; the variance that follows is infinite too, so that the next
+    # equations are zeros and keep these means
     (EVEN, [-1e140, 1e140], [-1e300], [1.0, 1.7e308], [1e140, 0.0], 1),
     # 13: a prediction so small that its quotient overflows, and infinity over infinity
     (EVEN, [1e150, 2e150], [1.0, 0.0], [TINY, 1e307], [2e150, 2e150, 1e150, 1.0], 1),
@@ -53,7 +54,7 @@ KNOWN = [  # columns, means, AR coefficients, variances, readings, passes
     (EVEN, [0.0, 1e140], [2.0, 0.0], [1.0, 1e300], [5e139, 1e140], 2),
     # 21 at place 1: weights over a variance are below 1e-300
     (EVEN, [0.0, 1.0], [0.5], [1e306], [1.0, 0.0], 1),
-    # 21 at place 2: squares of the readings are below 1e-300; in the second step a residual vanishes
+    # 21 at place 2: squares of the readings are below 1e-300; in the second step a label is all but without weight
     (EVEN, [0.0, 1.0], [0.5], [1.0], [1e-155, 0.0, 2e-155], 1),
     ([[0.9, 0.1], [0.9, 0.1]], [2.17, -1.67], [0.4, 0.09], [0.02], [2.2, -1.7], 2),
     # 22, of the start and of the first step's table, which is all but closed
@@ -171,7 +172,7 @@ def infinite_coefficient(r, k, p):
 
 def infinite_side(r, k, p):
     """The right side of the means' equations overflows and the matrix does not: factors and sensitivities of zero meet an
-    infinity, and 11."""
+    infinity."""
     chain = r.choice([chains.dyadic, chains.same, chains.sticky])
     c = gen.benign(r, r.choice([2, 2, 3]), r.choice([1, 1, 2]), chain, r.randint(4, 12))
     far, j = 2.0 ** r.randint(30, 60), r.randrange(c.k)
@@ -183,7 +184,7 @@ def infinite_side(r, k, p):
 
 
 def infinite_means(r, k, p):
-    """Coefficients of 1e300: sensitivities whose squares overflow, 11."""
+    """Huge coefficients: right sides and squares of sensitivities overflow, 11."""
     c = gen.benign(r, r.choice([2, 2, 3]), r.choice([1, 1, 2]), length=r.randint(3, 8))
     size = 10.0 ** r.choice([100, 140, 150])
     c.y = [r.choice([size, 0.0, -size]) for _ in c.y]
@@ -226,7 +227,7 @@ def infinite_residual(r, k, p):
 
 
 def runaway(r, k, p):
-    """Smoothed weights that overflow: counts of infinity over infinity, 13, or a finite one over infinity, 14."""
+    """Smoothed weights that overflow: counts of infinity over infinity, or NaN counts, 13."""
     return with_passes(r, gen.jump(r, k, p), [1, 2, 3])
 
 
