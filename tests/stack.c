@@ -30,23 +30,24 @@ static void *nothing(void *given)
 static void *loglike(void *given)
 {
     struct job *j = given;
-    msar_loglike(j->k, j->order, j->switching_ar, true, j->series, READINGS, j->counts, j->numbers, j->work, j->work_len, j->whole, j->real);
+    msar_loglike(j->k, j->order, j->switching_ar, true, j->series, READINGS, j->counts, j->numbers, j->work,
+                 j->work_len, j->whole, j->real);
     return NULL;
 }
 
 static void *filter(void *given)
 {
     struct job *j = given;
-    msar_filter(j->k, j->order, j->switching_ar, true, j->series, READINGS, j->counts, j->numbers, j->work, j->work_len, j->filtered,
-                j->table_len, j->whole, j->real);
+    msar_filter(j->k, j->order, j->switching_ar, true, j->series, READINGS, j->counts, j->numbers, j->work, j->work_len,
+                j->filtered, j->table_len, j->whole, j->real);
     return NULL;
 }
 
 static void *smooth(void *given)
 {
     struct job *j = given;
-    msar_smooth(j->k, j->order, j->switching_ar, true, j->series, READINGS, j->counts, j->numbers, j->work, j->work_len, j->filtered,
-                j->table_len, j->smoothed, j->table_len, j->whole, j->real);
+    msar_smooth(j->k, j->order, j->switching_ar, true, j->series, READINGS, j->counts, j->numbers, j->work, j->work_len,
+                j->filtered, j->table_len, j->smoothed, j->table_len, j->whole, j->real);
     return NULL;
 }
 
