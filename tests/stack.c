@@ -13,12 +13,12 @@
 enum { LIMIT = 64 * 1024, ALLOWANCE = 16 * 1024, PAGE = 4096, PAINT = 0xA5, READINGS = 4096 };
 
 struct job {
-    const char *name;
     size_t k, order;
+    bool switching_ar;
     double *series, *work, *filtered, *smoothed;
     size_t work_len, table_len;
     size_t counts[6], whole[4];
-    double numbers[400], real[2];
+    double numbers[400], fitted[400], real[2];
 };
 
 static void *nothing(void *given)
@@ -30,23 +30,33 @@ static void *nothing(void *given)
 static void *loglike(void *given)
 {
     struct job *j = given;
-    msar_loglike(j->k, j->order, false, true, j->series, READINGS, j->counts, j->numbers, j->work, j->work_len, j->whole, j->real);
+    msar_loglike(j->k, j->order, j->switching_ar, true, j->series, READINGS, j->counts, j->numbers, j->work,
+                 j->work_len, j->whole, j->real);
     return NULL;
 }
 
 static void *filter(void *given)
 {
     struct job *j = given;
-    msar_filter(j->k, j->order, false, true, j->series, READINGS, j->counts, j->numbers, j->work, j->work_len, j->filtered,
-                j->table_len, j->whole, j->real);
+    msar_filter(j->k, j->order, j->switching_ar, true, j->series, READINGS, j->counts, j->numbers, j->work, j->work_len,
+                j->filtered, j->table_len, j->whole, j->real);
     return NULL;
 }
 
 static void *smooth(void *given)
 {
     struct job *j = given;
-    msar_smooth(j->k, j->order, false, true, j->series, READINGS, j->counts, j->numbers, j->work, j->work_len, j->filtered,
-                j->table_len, j->smoothed, j->table_len, j->whole, j->real);
+    msar_smooth(j->k, j->order, j->switching_ar, true, j->series, READINGS, j->counts, j->numbers, j->work, j->work_len,
+                j->filtered, j->table_len, j->smoothed, j->table_len, j->whole, j->real);
+    return NULL;
+}
+
+/* One pass with its step, and the closing pass. */
+static void *fit(void *given)
+{
+    struct job *j = given;
+    msar_fit(j->k, j->order, j->switching_ar, true, j->series, READINGS, j->counts, j->numbers, j->work, j->work_len, j->smoothed,
+             j->table_len, 1, 0.0, j->fitted, j->whole, j->real);
     return NULL;
 }
 
@@ -85,10 +95,10 @@ static void *lent(size_t count)
     return memory;
 }
 
-static struct job job(size_t k, size_t order)
+static struct job job(size_t k, size_t order, bool switching_ar)
 {
-    struct job j = {.k = k, .order = order};
-    size_t rows = READINGS - order, windows = k, i;
+    struct job j = {.k = k, .order = order, .switching_ar = switching_ar};
+    size_t rows = READINGS - order, windows = k, blocks = switching_ar ? k : 1, i;
 
     for (i = 0; i < order; i++)
         windows *= k;
@@ -100,32 +110,38 @@ static struct job job(size_t k, size_t order)
     j.smoothed = lent(j.table_len);
     for (i = 0; i < READINGS; i++)
         j.series[i] = (double)(i * 2654435761u % 1000) / 250.0 - 2.0;
-    j.counts[0] = k, j.counts[1] = k * k, j.counts[2] = 1, j.counts[3] = order, j.counts[4] = order, j.counts[5] = k;
+    j.counts[0] = k, j.counts[1] = k * k, j.counts[2] = blocks, j.counts[3] = order;
+    j.counts[4] = blocks * order, j.counts[5] = k;
     for (i = 0; i < k * k; i++)
         j.numbers[i] = i / k == i % k ? 0.75 : 0.25 / (double)(k - 1);
     for (i = 0; i < k; i++) {
         j.numbers[256 + i] = (double)i / (double)k;
         j.numbers[384 + i] = 1.0 + 0.125 * (double)i;
     }
-    for (i = 0; i < order; i++)
+    for (i = 0; i < blocks * order; i++)
         j.numbers[272 + i] = 0.125;
     return j;
 }
 
 int main(void)
 {
-    static const size_t sizes[][2] = {{2, 0}, {2, 7}, {4, 3}, {16, 1}};
-    static void *(*const calls[])(void *) = {loglike, filter, smooth};
-    static const char *const names[] = {"loglike", "filter", "smooth"};
+    static const struct {
+        size_t k, order;
+        bool switching_ar;
+    } sizes[] = {{2, 0, false}, {2, 7, false}, {4, 3, false}, {16, 1, false}, {2, 7, true}, {4, 3, true}, {16, 1, true}};
+    static void *(*const calls[])(void *) = {loglike, filter, smooth, fit};
+    static const char *const names[] = {"loglike", "filter", "smooth", "fit"};
     size_t own = depth(nothing, NULL), deepest = 0, s, c;
 
     for (s = 0; s < sizeof sizes / sizeof *sizes; s++) {
-        struct job j = job(sizes[s][0], sizes[s][1]);
-        for (c = 0; c < 3; c++) {
+        struct job j = job(sizes[s].k, sizes[s].order, sizes[s].switching_ar);
+        for (c = 0; c < sizeof calls / sizeof *calls; c++) {
             size_t used = depth(calls[c], &j) - own;
-            if (j.whole[0])
+            /* a fit of order 0 is refused with 24 */
+            if (j.whole[0] != (calls[c] == fit && j.order == 0 ? 24 : 0))
                 stop("a call refused");
-            printf("stack: %s, k = %zu, order %zu, %d readings: %zu bytes\n", names[c], j.k, j.order, READINGS, used);
+            printf("stack: %s, k = %zu, order %zu, %s coefficients, %d readings: %zu bytes\n", names[c], j.k, j.order,
+                   j.switching_ar ? "switching" : "shared", READINGS, used);
             if (used > deepest)
                 deepest = used;
         }

@@ -1,7 +1,7 @@
-//! Times filter and smooth of the archive beside the Rust's own, on the same series and parameters, turn by turn.
+//! Times filter, smooth and fit of the archive beside the Rust's own, on the same series and parameters, turn by turn.
 //! Prints the median of many turns for each, in processor time of the thread, so that other work on the machine counts little;
 //! and stops where the two disagree by more than their elementary functions.
-use tsecon_regime::{MarkovSwitchingAr, MsarParams, MsarSpec};
+use tsecon_regime::{FitResult, MarkovSwitchingAr, MsarParams, MsarSpec};
 
 #[rustfmt::skip]
 extern "C" {
@@ -10,7 +10,13 @@ extern "C" {
     fn msar_smooth(k: usize, order: usize, ar: bool, variance: bool, series: *const f64, readings: usize, counts: *const usize,
         numbers: *const f64, work: *mut f64, work_len: usize, filtered: *mut f64, filtered_len: usize, smoothed: *mut f64,
         smoothed_len: usize, whole: *mut usize, real: *mut f64);
+    fn msar_fit(k: usize, order: usize, ar: bool, variance: bool, series: *const f64, readings: usize, counts: *const usize,
+        numbers: *const f64, work: *mut f64, work_len: usize, smoothed: *mut f64, smoothed_len: usize, max_iter: usize, tol: f64,
+        fitted: *mut f64, whole: *mut usize, real: *mut f64);
 }
+
+/// Passes of a fit. With a NaN tolerance it makes all of them.
+const PASSES: usize = 20;
 
 #[repr(C)]
 struct Clock {
@@ -100,6 +106,7 @@ struct Lent {
     work: Vec<f64>,
     filtered: Vec<f64>,
     smoothed: Vec<f64>,
+    fitted: [f64; 400],
     whole: [usize; 4],
     real: [f64; 2],
 }
@@ -109,7 +116,14 @@ impl Lent {
         let (k, p) = (d.spec.k_regimes, d.spec.order);
         let rows = d.series.len() - p;
         let table = vec![1.0; rows * k];
-        Lent { work: vec![1.0; 3 * rows * k.pow(p as u32 + 1)], filtered: table.clone(), smoothed: table, whole: [9; 4], real: [9.0; 2] }
+        Lent {
+            work: vec![1.0; 3 * rows * k.pow(p as u32 + 1)],
+            filtered: table.clone(),
+            smoothed: table,
+            fitted: [1.0; 400],
+            whole: [9; 4],
+            real: [9.0; 2],
+        }
     }
 
     fn filter(&mut self, d: &Drawn) -> f64 {
@@ -134,10 +148,22 @@ impl Lent {
         }
         self.real[1]
     }
+
+    fn fit(&mut self, d: &Drawn) -> f64 {
+        unsafe {
+            msar_fit(
+                d.spec.k_regimes, d.spec.order, false, true, d.series.as_ptr(), d.series.len(), d.counts.as_ptr(),
+                d.numbers.as_ptr(), self.work.as_mut_ptr(), self.work.len(), self.smoothed.as_mut_ptr(),
+                self.smoothed.len(), PASSES, f64::NAN, self.fitted.as_mut_ptr(), self.whole.as_mut_ptr(),
+                self.real.as_mut_ptr(),
+            )
+        }
+        self.real[1]
+    }
 }
 
-/// Median milliseconds of each, turn by turn, over about two seconds.
-fn medians(mut ours: impl FnMut() -> f64, mut theirs: impl FnMut() -> f64) -> (f64, f64) {
+/// Median milliseconds of each, turn by turn, over about two seconds and no fewer turns than said.
+fn medians(least: usize, mut ours: impl FnMut() -> f64, mut theirs: impl FnMut() -> f64) -> (f64, f64) {
     fn one(call: &mut impl FnMut() -> f64) -> f64 {
         let begin = used();
         std::hint::black_box(call());
@@ -145,7 +171,7 @@ fn medians(mut ours: impl FnMut() -> f64, mut theirs: impl FnMut() -> f64) -> (f
     }
     let (mut a, mut b) = (Vec::new(), Vec::new());
     let begin = used();
-    while a.len() < 15 || used() - begin < 2e3 {
+    while a.len() < least || used() - begin < 2e3 {
         a.push(one(&mut ours));
         b.push(one(&mut theirs));
     }
@@ -163,8 +189,7 @@ fn agree(ours: &[f64], theirs: &[Vec<f64>]) {
     }
 }
 
-fn main() {
-    println!("                     ours ms     Rust ms   Rust/ours");
+fn filters_and_smoothers() {
     for (k, p) in [(2, 0), (2, 1), (2, 4), (2, 7), (4, 3), (16, 1)] {
         for readings in [256, 4096] {
             let d = draw(k, p, readings);
@@ -175,10 +200,44 @@ fn main() {
             agree(&lent.filtered, &bind().filter(&d.params).expect("the Rust filters").filtered_prob);
             lent.smooth(&d);
             agree(&lent.smoothed, &bind().smooth(&d.params).expect("the Rust smooths").smoothed_prob);
-            let (ours, theirs) = medians(|| lent.filter(&d), || bind().filter(&d.params).map_or(0.0, |r| r.loglik));
+            let (ours, theirs) = medians(15, || lent.filter(&d), || bind().filter(&d.params).map_or(0.0, |r| r.loglik));
             println!("filter {k:2} {p} {readings:5} {ours:11.4} {theirs:11.4} {:11.2}", theirs / ours);
-            let (ours, theirs) = medians(|| lent.smooth(&d), || bind().smooth(&d.params).map_or(0.0, |r| r.loglik));
+            let (ours, theirs) = medians(15, || lent.smooth(&d), || bind().smooth(&d.params).map_or(0.0, |r| r.loglik));
             println!("smooth {k:2} {p} {readings:5} {ours:11.4} {theirs:11.4} {:11.2}", theirs / ours);
         }
     }
+}
+
+/// The two fits made the same passes and came to the same: the gaps of the platform's functions grow with each pass.
+fn agree_fits(lent: &Lent, k: usize, theirs: &FitResult) {
+    assert_eq!(lent.whole, [0, 0, PASSES, 0], "our fit refused, or made other passes");
+    assert_eq!((theirs.iterations, theirs.converged), (PASSES, false), "the Rust made other passes");
+    let near = |a: f64, b: f64| (a - b).abs() <= 1e-6 * b.abs().max(1.0);
+    assert!(near(lent.real[1], theirs.loglik), "log-likelihoods {} and {}", lent.real[1], theirs.loglik);
+    for (a, &b) in lent.fitted[256..256 + k].iter().zip(theirs.params.means()) {
+        assert!(near(*a, b), "the means differ: {a} and {b}");
+    }
+}
+
+fn fits() {
+    for (k, p) in [(2, 1), (2, 4), (3, 2), (16, 1)] {
+        for readings in [1000, 4096] {
+            let d = draw(k, p, readings);
+            let mut lent = Lent::new(&d);
+            let fit = || MarkovSwitchingAr::new(&d.series, d.spec).and_then(|m| m.fit(&d.params, PASSES, f64::NAN));
+            lent.fit(&d);
+            agree_fits(&lent, k, &fit().expect("the Rust fits"));
+            let (ours, theirs) = medians(5, || lent.fit(&d), || fit().map_or(0.0, |r| r.loglik));
+            println!("fit    {k:2} {p} {readings:5} {ours:11.4} {theirs:11.4} {:11.2}", theirs / ours);
+        }
+    }
+}
+
+/// With the word `fits` only these.
+fn main() {
+    println!("                     ours ms     Rust ms   Rust/ours");
+    if std::env::args().nth(1).as_deref() != Some("fits") {
+        filters_and_smoothers();
+    }
+    fits();
 }

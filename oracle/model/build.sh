@@ -3,7 +3,8 @@
 # oracle/model/build.sh SOURCES FOLDER
 # SOURCES: the folder with model.rs, params.rs, spec.rs, linsolve.rs; they are never copied into the repository.
 # FOLDER: a scratch folder outside the repository. It gets
-#   routed/oracle     root, logarithm and exponential are oracle/shim/fm.rs, and the places of 22 and 23 are written down
+#   routed/oracle     root, logarithm and exponential are oracle/shim/fm.rs; the places that the Rust's errors do not say, and
+#                     how often the filter began, are written down
 #   untouched/oracle  the sources byte for byte, but for lines at the end of model.rs
 set -euo pipefail
 
@@ -42,15 +43,32 @@ route() { # MODEL
     done
 }
 
-# Writes down the label of a refusal 22 and the row of a refusal 23.
-note() { # MODEL
+# Writes down that the filter begins, the label of a refusal 22 and the row of a refusal 23.
+note_model() { # MODEL
     sed -E -i \
         -e 's/^( *)for &p in &pi \{$/\1for (label, \&p) in pi.iter().enumerate() {/' \
         -e '/^ *if !\(p\.is_finite\(\) && p >= -1e-9\) \{$/ s/$/ crate::met::at(label, p);/' \
-        -e '/^ *if !\(lik_t\.is_finite\(\) && lik_t > 0\.0\) \{$/ s/$/ crate::met::at(t_idx, 0.0);/' "$1"
+        -e '/^ *if !\(lik_t\.is_finite\(\) && lik_t > 0\.0\) \{$/ s/$/ crate::met::at(t_idx, 0.0);/' \
+        -e 's/^( *)self\.check_params\(params\)\?;$/\1crate::met::began(); self.check_params(params)?;/' "$1"
     stands "$1" 1 'for (label, &p) in pi.iter().enumerate() {'
     stands "$1" 1 'crate::met::at(label, p);'
     stands "$1" 1 'crate::met::at(t_idx, 0.0);'
+    stands "$1" 1 'crate::met::began(); self.check_params(params)?;'
+}
+
+# Writes down the places of refusals 11, 13, 15 and 16, which a fit's own step may end with.
+note_params() { # PARAMS
+    sed -E -i \
+        -e '/^ *if !m\.is_finite\(\) \{$/ s/$/ crate::met::at(i, m);/' \
+        -e '/^ *if !\(p\.is_finite\(\) && \(0\.0\.\.=1\.0 \+ STOCHASTIC_TOL\)\.contains\(&p\)\) \{$/ s/$/ crate::met::at(i * k + j, p);/' \
+        -e '/^ *if !c\.is_finite\(\) \{$/ s/$/ crate::met::at(flat_ar.len(), c);/' \
+        -e 's/^( *)for &v in &variances \{$/\1for (i, \&v) in variances.iter().enumerate() {/' \
+        -e '/^ *if !\(v\.is_finite\(\) && v > 0\.0\) \{$/ s/$/ crate::met::at(i, v);/' "$1"
+    stands "$1" 1 'crate::met::at(i, m);'
+    stands "$1" 1 'crate::met::at(i * k + j, p);'
+    stands "$1" 1 'crate::met::at(flat_ar.len(), c);'
+    stands "$1" 1 'for (i, &v) in variances.iter().enumerate() {'
+    stands "$1" 1 'crate::met::at(i, v);'
 }
 
 compile() { # ARGUMENTS
@@ -67,7 +85,8 @@ for flavour in routed untouched; do
     cp "$here"/standins/{lib,error,results,met}.rs "$here/../shim/fm.rs" "$room/src/"
     if [[ $flavour == routed ]]; then
         route "$room/src/model.rs"
-        note "$room/src/model.rs"
+        note_model "$room/src/model.rs"
+        note_params "$room/src/params.rs"
     fi
     cat "$here/standins/model_tail.rs" >>"$room/src/model.rs"
     compile --crate-type rlib --crate-name tsecon_stats "$here/standins/tsecon_stats.rs"

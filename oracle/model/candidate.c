@@ -93,6 +93,8 @@ static struct {
     size_t readings;
     double *y;
     struct parameters q;
+    size_t max_iter;
+    double tol;
 } c;
 
 static char *rest; /* what is left of the line */
@@ -147,7 +149,10 @@ static bool read_line(const char *name) {
         c.q.counts[3] = whole();
         read_part(&c.q.counts[4], 272, 112);
     } else if (!strcmp(name, "var")) read_part(&c.q.counts[5], 384, 16);
-    else return !strcmp(name, "run");
+    else if (!strcmp(name, "fit")) {
+        c.max_iter = whole();
+        c.tol = number();
+    } else return !strcmp(name, "run");
     return false;
 }
 
@@ -163,10 +168,12 @@ static struct answer blank(void) {
     return a;
 }
 
+static bool is_call(const char *name) { return !strcmp(c.call, name); }
+
 /* Holds the fields that this call has no use for to zero. */
 static void hold_fields(const struct answer *a, bool has_place, bool has_loglik) {
     if (a->before != 91 || a->between != 96 || a->after != 99.0) broken("places beside the answer");
-    if (a->whole[2] || a->whole[3]) broken("iterations and converged");
+    if ((a->whole[0] || !is_call("fit")) && (a->whole[2] || a->whole[3])) broken("iterations and converged");
     if (!a->whole[0] && ((a->whole[1] && !has_place) || raw(a->real[0]))) broken("refusal fields of an answer");
     if ((a->whole[0] || !has_loglik) && raw(a->real[1])) broken("log-likelihood of a call that gives none");
 }
@@ -178,8 +185,15 @@ static void show_refusal(const struct answer *a) {
 
 /* ---- model calls */
 
-static size_t taken(void) {
-    return !strcmp(c.call, "loglike") ? 1 : !strcmp(c.call, "filter") ? 2 : !strcmp(c.call, "smooth") ? 3 : 0;
+/* Whether the call is lent work memory (0), a filtered table (1), a smoothed table (2). */
+static bool takes(size_t i) {
+    static const struct {
+        const char *name;
+        bool lent[MOST_LENT];
+    } calls[] = {{"loglike", {true}}, {"filter", {true, true}}, {"smooth", {true, true, true}}, {"fit", {true, false, true}}};
+    for (size_t j = 0; j < sizeof calls / sizeof *calls; j++)
+        if (is_call(calls[j].name)) return calls[j].lent[i];
+    return false;
 }
 
 /* The lengths needed, zeros where spec and series have none. */
@@ -191,33 +205,46 @@ static void needs(size_t need[MOST_LENT]) {
     need[1] = need[2] = any ? n * c.k : 0;
 }
 
-static void call_model(const struct parameters *q, struct lent m[MOST_LENT], struct answer *a) {
-    size_t calls = taken();
-    if (calls == 1)
+static void call_model(const struct parameters *q, struct lent m[MOST_LENT], struct lent fitted, struct answer *a) {
+    if (is_call("loglike"))
         msar_loglike(c.k, c.p, c.switching_ar, c.switching_variance, c.y, c.readings, q->counts, q->numbers,
                      places(m[0]), m[0].length, a->whole, a->real);
-    if (calls == 2)
+    if (is_call("filter"))
         msar_filter(c.k, c.p, c.switching_ar, c.switching_variance, c.y, c.readings, q->counts, q->numbers,
                     places(m[0]), m[0].length, places(m[1]), m[1].length, a->whole, a->real);
-    if (calls == 3)
+    if (is_call("smooth"))
         msar_smooth(c.k, c.p, c.switching_ar, c.switching_variance, c.y, c.readings, q->counts, q->numbers,
                     places(m[0]), m[0].length, places(m[1]), m[1].length, places(m[2]), m[2].length, a->whole, a->real);
+    if (is_call("fit"))
+        msar_fit(c.k, c.p, c.switching_ar, c.switching_variance, c.y, c.readings, q->counts, q->numbers, places(m[0]),
+                 m[0].length, places(m[2]), m[2].length, c.max_iter, c.tol, places(fitted), a->whole, a->real);
 }
 
-/* Refusals of what is handed in touch nothing. After the others and after an answer the needed work memory is +0; a table is
-   written by an answer alone, and only as far as it needs. */
+/* Whether the needed work memory is +0, and all behind it as found. */
+static bool is_cleared(struct lent work, size_t need) {
+    return need > 0 && need <= work.length && as_found(work, need) && is_zero(work, 0, need);
+}
+
+/* After an answer the needed work memory is +0. After a refusal it is that or as found; which of the two, the comparison
+   tells. A table is written by an answer alone, and only as far as it needs. */
 static void hold_memory(struct lent m[MOST_LENT], const size_t need[MOST_LENT], size_t refused) {
     static const char *names[MOST_LENT] = {"work memory", "filtered table", "smoothed table"};
-    bool ran = refused == 0 || refused > 20;
-    for (size_t i = 0; i < taken(); i++) {
-        bool written = i == 0 ? ran : refused == 0;
-        if (!as_found(m[i], written ? need[i] : 0)) broken(names[i]);
-    }
-    if (ran && !is_zero(m[0], 0, need[0])) broken("work memory is not cleared");
+    for (size_t i = 1; i < MOST_LENT; i++)
+        if (takes(i) && !as_found(m[i], refused ? 0 : need[i])) broken(names[i]);
+    if (!is_cleared(m[0], need[0]) && !(refused && as_found(m[0], 0))) broken(names[0]);
+}
+
+/* Fitted parameters are as found after a refusal; in an answer the places past their counts are +0. */
+static void hold_fitted(struct lent fitted, size_t refused) {
+    static const size_t part[PARTS + 1] = {0, 256, 272, 384, NUMBERS};
+    const size_t count[PARTS] = {c.q.counts[1], c.q.counts[0], c.q.counts[4], c.q.counts[5]};
+    if (!as_found(fitted, refused ? 0 : NUMBERS)) broken("fitted parameters");
+    for (size_t i = 0; i < PARTS && !refused; i++)
+        if (!is_zero(fitted, part[i] + count[i], part[i + 1])) broken("places past the fitted parameters");
 }
 
 /* Makes the call with memory of these lengths, and holds it to its promises. */
-static struct answer run_model(const size_t length[MOST_LENT], struct lent m[MOST_LENT]) {
+static struct answer run_model(const size_t length[MOST_LENT], struct lent m[MOST_LENT], struct lent fitted) {
     struct parameters given = c.q;
     struct answer a = blank();
     size_t need[MOST_LENT];
@@ -225,9 +252,10 @@ static struct answer run_model(const size_t length[MOST_LENT], struct lent m[MOS
     double *y = room(c.readings * sizeof *y);
     memcpy(y, c.y, c.readings * sizeof *y);
     for (size_t i = 0; i < MOST_LENT; i++) m[i] = lend(length[i]);
-    call_model(&given, m, &a);
+    call_model(&given, m, fitted, &a);
     hold_fields(&a, false, true);
     hold_memory(m, need, a.whole[0]);
+    if (is_call("fit")) hold_fitted(fitted, a.whole[0]);
     if (memcmp(&given, &c.q, sizeof given)) broken("parameters");
     if (memcmp(y, c.y, c.readings * sizeof *y)) broken("series");
     free(y);
@@ -244,33 +272,55 @@ static void show_table(const char *name, struct lent m, size_t need) {
     show_numbers(places(m), shown);
 }
 
+static void show_part(const char *name, const double *numbers, size_t count) {
+    printf("%s %zu", name, count);
+    show_numbers(numbers, count);
+}
+
+/* What a fit answers beside log-likelihood and table. */
+static void show_fit(const struct answer *a, const double *fitted) {
+    printf("iterations %zu\nconverged %zu\n", a->whole[2], a->whole[3]);
+    show_part("means", fitted + 256, c.q.counts[0]);
+    show_part("trans", fitted, c.q.counts[1]);
+    printf("ar %zu %zu", c.q.counts[2], c.q.counts[3]);
+    show_part("", fitted + 272, c.q.counts[4]);
+    show_part("var", fitted + 384, c.q.counts[5]);
+}
+
 static void answer_model(void) {
-    struct lent m[MOST_LENT];
+    struct lent m[MOST_LENT], fitted = lend(NUMBERS);
     size_t need[MOST_LENT];
     needs(need);
-    struct answer a = run_model(c.memory, m);
-    if (a.whole[0]) show_refusal(&a);
-    else {
+    struct answer a = run_model(c.memory, m, fitted);
+    if (a.whole[0]) {
+        show_refusal(&a);
+        if (is_cleared(m[0], need[0])) puts("running");
+    } else {
         printf("loglik");
         show_numbers(&a.real[1], 1);
-        if (taken() > 1) show_table("filtered", m[1], need[1]);
-        if (taken() > 2) show_table("smoothed", m[2], need[2]);
+        if (is_call("fit")) show_fit(&a, places(fitted));
+        if (takes(1)) show_table("filtered", m[1], need[1]);
+        if (takes(2)) show_table("smoothed", m[2], need[2]);
     }
     give_back(m);
+    free(fitted.all);
 }
 
 static void answer_short(void) {
     static const char *names[MOST_LENT] = {"work", "filtered", "smoothed"};
     size_t need[MOST_LENT];
     needs(need);
-    for (size_t i = 0; i < taken() && need[i] > 0; i++) {
-        struct lent m[MOST_LENT];
+    for (size_t i = 0; i < MOST_LENT; i++) {
+        if (!takes(i) || need[i] == 0) continue;
+        struct lent m[MOST_LENT], fitted = lend(NUMBERS);
         size_t length[MOST_LENT] = {need[0], need[1], need[2]};
         length[i]--;
-        struct answer a = run_model(length, m);
+        struct answer a = run_model(length, m, fitted);
+        if (is_cleared(m[0], need[0])) broken("work memory of a call that is lent too little");
         printf("short %s %zu %zu", names[i], a.whole[0], a.whole[1]);
         show_numbers(&a.real[0], 1);
         give_back(m);
+        free(fitted.all);
     }
 }
 
@@ -315,12 +365,12 @@ static void answer_matches(void) {
 
 static void answer(bool again_short) {
     printf("answer %s\n", c.id);
-    if (taken()) answer_model();
-    else if (!strcmp(c.call, "windows")) answer_windows();
-    else if (!strcmp(c.call, "check")) answer_check();
-    else if (!strcmp(c.call, "durations")) answer_labels(msar_durations);
-    else if (!strcmp(c.call, "shares")) answer_labels(msar_shares);
-    else if (!strcmp(c.call, "matches")) answer_matches();
+    if (takes(0)) answer_model();
+    else if (is_call("windows")) answer_windows();
+    else if (is_call("check")) answer_check();
+    else if (is_call("durations")) answer_labels(msar_durations);
+    else if (is_call("shares")) answer_labels(msar_shares);
+    else if (is_call("matches")) answer_matches();
     if (again_short) answer_short();
     puts("end");
 }

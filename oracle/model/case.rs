@@ -20,6 +20,8 @@ pub struct Case {
     pub order: usize,
     pub ar: Part,
     pub variances: Part,
+    pub max_iter: usize,
+    pub tol: f64,
 }
 
 type Words<'a> = SplitAsciiWhitespace<'a>;
@@ -36,8 +38,12 @@ fn flag(words: &mut Words) -> bool {
     whole(words) == 1
 }
 
+fn number(w: &str) -> f64 {
+    f64::from_bits(u64::from_str_radix(w, 16).expect("16 hexadecimal digits"))
+}
+
 fn numbers(words: &mut Words) -> Vec<f64> {
-    words.map(|w| f64::from_bits(u64::from_str_radix(w, 16).expect("16 hexadecimal digits"))).collect()
+    words.map(number).collect()
 }
 
 fn part(words: &mut Words, room: usize) -> Part {
@@ -59,6 +65,8 @@ fn named(words: &mut Words) -> Case {
         order: 0,
         ar: Part::default(),
         variances: Part::default(),
+        max_iter: 0,
+        tol: 0.0,
     }
 }
 
@@ -101,6 +109,10 @@ impl Reader {
                 c.ar = part(&mut words, 112);
             }
             "var" => c.variances = part(&mut words, 16),
+            "fit" => {
+                c.max_iter = whole(&mut words);
+                c.tol = number(word(&mut words));
+            }
             other => panic!("no such line: {other}"),
         }
         None

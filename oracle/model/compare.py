@@ -1,23 +1,23 @@
 """Compares answers to the same cases.
 compare.py CASES ORACLE CANDIDATE   every bit and every refusal; 7 is worked out from document 01, as the Rust has no lent memory.
                                     Ends with status 1 where anything differs, or where a promise on lent memory is broken.
-compare.py --gaps ROUTED UNTOUCHED  how far the untouched Rust is from the routed one; a gap is no failure."""
+compare.py --gaps ROUTED UNTOUCHED  how far the untouched Rust is from the routed one, as far as the shorter file goes; a gap is
+                                    no failure."""
 import math
 import sys
 from itertools import zip_longest
 
-from protocol import number, read_answers, read_heads, refusal_of, with_memory
+from protocol import LENT, number, read_answers, read_heads, refusal_of, with_memory
 
 SHOWN = 20
-LENT = ('work', 'filtered', 'smoothed')
 
 
 def shortened(head, answer):
     """What the candidate has to say with each lent memory one place short."""
-    needs = head.needs() or ()
-    for name, need in list(zip(LENT, needs))[:head.lent()]:
-        said = with_memory(answer, need)
-        yield '%s %s' % (name, said['refusal'])
+    needs = head.needs()
+    for i in head.lent() if needs else ():
+        said = with_memory(answer, needs[i])
+        yield '%s %s' % (LENT[i], said['refusal'])
 
 
 def first_difference(found, expected):
@@ -32,7 +32,9 @@ def differences(head, answer, found):
     """Lines that say what of a candidate's answer is wrong."""
     expected = with_memory(answer, head.short())
     short, broken = found.pop('short', None), found.pop('broken', [])
-    for name in sorted(expected.keys() | found.keys()):
+    if ('running' in expected) != ('running' in found):
+        yield 'work memory %s' % ('as found' if 'running' in expected else 'cleared')
+    for name in sorted((expected.keys() | found.keys()) - {'running'}):
         if expected.get(name) != found.get(name):
             yield '%s: %s' % (name, first_difference(found.get(name), expected.get(name)))
     if short is not None and short != list(shortened(head, answer)):
@@ -43,18 +45,19 @@ def differences(head, answer, found):
 
 def compare(cases, oracle, candidate):
     heads = read_heads(cases)
-    met, wrong, shorts = 0, 0, 0
+    met, wrong, shorts, fits = 0, 0, 0, 0
     for pair in zip_longest(read_answers(oracle), read_answers(candidate), fillvalue=('no answer', {})):
         (ident, answer), (found_id, found) = pair
         shorts += len(found.get('short', []))
         said = ['answer to %s' % found_id] if found_id != ident else list(differences(heads[ident], answer, found))
         met += 1
+        fits += ident in heads and heads[ident].call == 'fit'
         wrong += bool(said)
         if said and wrong <= SHOWN:
             print('%s differs: %s' % (ident, '; '.join(said)))
     if met != len(heads):
         print('%d answers to %d cases' % (met, len(heads)))
-    print('%d cases and %d with memory one place short compared, %d differ' % (met, shorts, wrong))
+    print('%d cases, %d of them fits, and %d with memory one place short compared, %d differ' % (met, fits, shorts, wrong))
     return wrong == 0 and met == len(heads)
 
 

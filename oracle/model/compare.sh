@@ -2,7 +2,8 @@
 # Compares the library's model calls with the Rust they were ported from, on cases drawn by a seed: every bit, every refusal,
 # and the promises on lent memory.
 # oracle/model/compare.sh SOURCES quick|full [SEED [LIBRARY]]
-# SOURCES: the folder with the Rust sources; they are never copied into the repository. quick: 1,000 cases; full: 40,000.
+# SOURCES: the folder with the Rust sources; they are never copied into the repository.
+# quick: 1,000 cases and 400 fits; full: 40,000 and 20,000.
 # LIBRARY: a folder with libc_interface.a and msar.h to compare instead of this repository's.
 # Status 0: no difference, 1: some, or something was not met; 2: it could not be run.
 set -euo pipefail
@@ -13,8 +14,8 @@ stop() {
 }
 [[ $# -ge 2 && $# -le 4 ]] || stop "usage: $0 SOURCES quick|full [SEED [LIBRARY]]"
 case $2 in
-quick) count=1000 ;;
-full) count=40000 ;;
+quick) count=1000 fits=400 ;;
+full) count=40000 fits=20000 ;;
 *) stop "quick or full, not $2" ;;
 esac
 seed=${3:-1}
@@ -39,12 +40,14 @@ fi
 "$here/build.sh" "$1" "$room"
 gcc -std=c11 -O2 -Wall -Wextra -Werror -I"$header" -o "$room/candidate" "$here/candidate.c" "$archive" || exit 2
 
-python3 "$here/gen.py" "$seed" "$count" >"$room/cases"
+python3 "$here/draw.py" calls "$seed" "$count" >"$room/calls"
+python3 "$here/draw.py" fits "$seed" "$fits" | cat "$room/calls" - >"$room/cases"
 "$room/routed/oracle" <"$room/cases" >"$room/oracle.answers" &
 oracle=$!
 "$room/candidate" short <"$room/cases" >"$room/candidate.answers" || stop "the candidate stopped"
 wait "$oracle" || stop "the oracle stopped"
-"$room/untouched/oracle" <"$room/cases" >"$room/untouched.answers"
+# no fits: a last digit may decide how many passes one makes
+"$room/untouched/oracle" <"$room/calls" >"$room/untouched.answers"
 
 status=0
 python3 "$here/compare.py" "$room/cases" "$room/oracle.answers" "$room/candidate.answers" || status=1

@@ -1,12 +1,19 @@
 """Counts what a set of cases reaches: coverage.py CASES ANSWERS, the answers being the oracle's.
-Ends with status 1 where a refusal of document 01 that these calls can give, or a pair (k, p), was not met."""
+Ends with status 1 where a refusal of document 01 that these calls can give, a pair (k, p), or an outcome of a fit was not met."""
 import sys
 from collections import Counter
 
-from protocol import MODEL_CALLS, number, read_answers, read_heads, refusal_of, with_memory
+from protocol import TAKES, number, ran, read_answers, read_heads, refusal_of, with_memory
 
-REFUSALS = [*range(1, 8), *range(10, 19), 20, 21, 22, 23]
+HANDED_IN = [*range(1, 8), *range(10, 19), 20]
 PAIRS = [(k, p) for k in range(2, 17) for p in range(8) if k ** (p + 1) <= 256]
+# What document 01 lets these calls refuse. 26 is not among it: a likelihood that 23 lets pass has a finite logarithm, and so have
+# the sums of 4,096 of them.
+REFUSALS = [str(n) for n in HANDED_IN] + ['21', '22', '23']
+OF_FITS = ([str(n) for n in HANDED_IN + [24, 25]] + ['25 with infinity']
+           + ['%s of a step' % n for n in ('11', '13', '14', '15', '16 with 0', '16 with infinity', '21 at 1', '21 at 2')]
+           + ['%s of the start' % n for n in ('21 at 0', '22', '23')] + ['%s of a later pass' % n for n in ('21 at 0', '22', '23')]
+           + ['no pass', 'all passes', 'converged'])
 
 
 def odd_numbers(line):
@@ -18,21 +25,39 @@ def odd_numbers(line):
             'a number above 1.001': any(v > 1.001 for v in values)}
 
 
+def fit_outcome(answer):
+    """What a fit came to, in words."""
+    if 'iterations' in answer:
+        return 'converged' if answer['converged'] == '1' else 'all passes' if answer['iterations'] != '0' else 'no pass'
+    said, place, value = answer['refusal'].split()
+    if said == '21':
+        said += ' at ' + place
+    if said == '16' and 'running' in answer or said == '25':
+        said += {'7ff0000000000000': ' with infinity', '0' * 16: ' with 0' if said == '16' else ''}.get(value, '')
+    if 'running' not in answer:
+        return said
+    if said not in ('21 at 0', '22', '23'):
+        return said + ' of a step'
+    return said + (' of the start' if answer['running'] == '1' else ' of a later pass')
+
+
 def coverage(cases, answers):
     heads = read_heads(cases)
-    calls, refusals, pairs, tables = Counter(), Counter(), Counter(), Counter()
+    calls, refusals, fits, pairs, fit_pairs, tables = (Counter() for _ in range(6))
     for ident, answer in read_answers(answers):
         head = heads[ident]
         answer = with_memory(answer, head.short())
-        refused = refusal_of(answer)
         calls[head.call] += 1
-        refusals[refused] += 1
-        if head.call in MODEL_CALLS and refused in (0, 21, 22, 23):
-            pairs[head.k, head.p] += 1
+        if head.call == 'fit':
+            fits[fit_outcome(answer)] += 1
+        else:
+            refusals[str(refusal_of(answer))] += 1
+        if head.call in TAKES and ran(answer):
+            (fit_pairs if head.call == 'fit' else pairs)[head.k, head.p] += 1
         for name in ('filtered', 'smoothed'):
             for what, met in odd_numbers(answer[name]).items() if name in answer else ():
                 tables['%s with %s' % (name, what)] += met
-    return calls, refusals, pairs, tables
+    return calls, refusals, fits, pairs, fit_pairs, tables
 
 
 def show(title, counts):
@@ -40,12 +65,16 @@ def show(title, counts):
 
 
 if __name__ == '__main__':
-    calls, refusals, pairs, tables = coverage(*map(open, sys.argv[1:3]))
+    calls, refusals, fits, pairs, fit_pairs, tables = coverage(*map(open, sys.argv[1:3]))
     show('calls', calls)
-    show('refusals (0: answered)', refusals)
-    show('model calls that ran, by (k, p)', pairs)
+    show('refusals of the other calls (0: answered)', refusals)
+    show('fits', fits)
+    show('other calls that ran, by (k, p)', pairs)
+    show('fits that ran, by (k, p)', fit_pairs)
     show('tables', tables)
     missed = [n for n in REFUSALS if not refusals[n]] + [pair for pair in PAIRS if not pairs[pair]]
+    missed += ['fit: ' + n for n in OF_FITS if not fits[n]]
+    missed += ['fit: (%d, %d)' % pair for pair in PAIRS if pair[1] > 0 and not fit_pairs[pair]]
     if missed:
         print('not met: %s' % missed)
         sys.exit(1)

@@ -125,10 +125,35 @@ fn shape(c: &Case) -> Option<Refusal> {
     if matches(c) { None } else { at(20, 0) }
 }
 
+fn sum(terms: impl Iterator<Item = f64>) -> f64 {
+    terms.fold(0.0, |total, x| total + x)
+}
+
+/// The sample variance: about the mean, divided by T.
+fn variance(y: &[f64]) -> f64 {
+    let t = y.len() as f64;
+    let mean = sum(y.iter().copied()) / t;
+    sum(y.iter().map(|v| (v - mean) * (v - mean))) / t
+}
+
+fn fit(c: &Case) -> Option<Refusal> {
+    if c.spec.order == 0 {
+        return at(24, 0);
+    }
+    let value = variance(&c.y);
+    let usable = value.is_finite() && value > 0.0;
+    (!usable).then_some(Refusal { number: 25, place: 0, value })
+}
+
+fn model(c: &Case) -> Option<Refusal> {
+    spec(c).or_else(|| series(c)).or_else(|| params(c)).or_else(|| shape(c))
+}
+
 /// What a call refuses of a case before anything runs.
 pub fn early(c: &Case) -> Option<Refusal> {
     match c.call.as_str() {
-        "loglike" | "filter" | "smooth" => spec(c).or_else(|| series(c)).or_else(|| params(c)).or_else(|| shape(c)),
+        "loglike" | "filter" | "smooth" => model(c),
+        "fit" => model(c).or_else(|| fit(c)),
         "windows" => spec(c),
         "check" | "durations" | "shares" => params(c),
         "matches" => None,

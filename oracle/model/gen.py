@@ -1,10 +1,8 @@
-"""Writes cases for the oracle and the candidate: gen.py SEED COUNT > cases
+"""Cases of every call but fit, which fits.py has.
 A quarter are short series and a quarter small counts, drawn from lists that hold every one of them, so that from COUNT = 38,400
 on all are there; the others come from the families below, over every (k, p) by turns."""
 import itertools
 import math
-import random
-import sys
 
 import chains
 from protocol import HUGE, MODEL_CALLS, Case
@@ -41,6 +39,13 @@ def benign(r, k, p, chain=None, length=None):
     c = Case(r.choice(MODEL_CALLS), k, p, sar, svar, [], means, chains.flat(columns), ar, var)
     c.y = simulated(r, c, columns, length if length is not None else drawn_length(r, k, p))
     return c
+
+
+def with_flags(r, k, p, sar, svar):
+    while True:
+        c = benign(r, k, p, length=p + 1 + r.randrange(12))
+        if (c.sar, c.svar) == (sar, svar):
+            return c
 
 
 def drawn_length(r, k, p):
@@ -393,18 +398,9 @@ def lend(r, c):
     c.memory = tuple(need + r.choice([0, 0, 1, r.randrange(9)]) for need in needs)
 
 
-def cases(seed, count):
-    r = random.Random(seed)
+def cases(r, count):
     listed = sampled(r, 'each', one_of_each(r), count)
     listed += sampled(r, 'short', short_series(), count // 4)
     listed += sampled(r, 'counts', small_counts(), count // 4)
-    for i, c in enumerate(itertools.chain(listed, from_families(r, count - len(listed)))):
-        c.id = '%s-%d' % (c.id, i)
-        if c.memory is None:
-            lend(r, c)
-        yield c
-
-
-if __name__ == '__main__':
-    for c in cases(int(sys.argv[1]), int(sys.argv[2])):
-        sys.stdout.write(c.text())
+    yield from listed
+    yield from from_families(r, count - len(listed))

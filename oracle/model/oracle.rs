@@ -35,6 +35,14 @@ fn table(name: &str, rows: &[Vec<f64>]) -> String {
     out
 }
 
+/// The fitted parameters, as a case has them.
+fn parameters(q: &MsarParams) -> String {
+    let ar = q.ar();
+    let mut coefficients = format!("ar {} {} {}", ar.len(), q.order(), ar.len() * q.order());
+    write_numbers(&mut coefficients, &ar.concat());
+    list("means", q.means()) + &list("trans", &q.transition_matrix().concat()) + &coefficients + &list("var", q.variances())
+}
+
 fn loglik(x: f64) -> String {
     format!("loglik {:016x}\n", pattern(x))
 }
@@ -71,6 +79,11 @@ fn of_model(c: &Case) -> Result<String, RegimeError> {
             let r = model.filter(&q)?;
             Ok(loglik(r.loglik) + &table("filtered", &r.filtered_prob))
         }
+        "fit" => {
+            let r = model.fit(&q, c.max_iter, c.tol)?;
+            let passes = format!("iterations {}\nconverged {}\n", r.iterations, r.converged as u8);
+            Ok(loglik(r.loglik) + &passes + &parameters(&r.params) + &table("smoothed", &r.smoothed_prob))
+        }
         _ => {
             let r = model.smooth(&q)?;
             Ok(loglik(r.loglik) + &table("filtered", &r.filtered_prob) + &table("smoothed", &r.smoothed_prob))
@@ -102,15 +115,17 @@ fn refused(r: Refusal) -> String {
     format!("refusal {} {} {:016x}\n", r.number, r.place, pattern(r.value))
 }
 
-/// A refusal of the run. The untouched Rust does not say all of it.
-fn refused_running(t: Told) -> String {
+/// A refusal of the run. The untouched Rust does not say all of it. A zero is +0: the document's sums start there, and the
+/// larger of its two zeros is that.
+fn refused_running(c: &Case, t: Told) -> String {
     let place = t.place.map_or("-".to_string(), |p| p.to_string());
-    let value = t.value.map_or("-".to_string(), |v| format!("{:016x}", pattern(v)));
-    format!("refusal {} {place} {value}\n", t.number)
+    let value = t.value.map_or("-".to_string(), |v| format!("{:016x}", pattern(v + 0.0)));
+    let refusal = format!("refusal {} {place} {value}\n", t.number);
+    if c.call == "shares" { refusal } else { refusal + &format!("running {}\n", met::begun()) }
 }
 
 fn answer(c: &Case) -> String {
-    met::take();
+    (met::take(), met::begun());
     let early = document::early(c);
     if let Some(r) = early {
         if document::is_own(r, c) || (c.call != "windows" && !document::has_rows(c)) {
@@ -119,7 +134,7 @@ fn answer(c: &Case) -> String {
     }
     match (early, by_the_rust(c).map_err(told::of)) {
         (None, Ok(lines)) => lines,
-        (None, Err(t)) if t.number > 20 => refused_running(t),
+        (None, Err(t)) if t.is_running(&c.call) => refused_running(c, t),
         (Some(r), Err(t)) if t.is(r) => refused(r),
         (r, Ok(_)) => panic!("case {}: the document refuses, {r:?}, and the Rust answers", c.id),
         (r, Err(t)) => panic!("case {}: the Rust refuses with {}, the document says {r:?}", c.id, t.number),

@@ -4,6 +4,9 @@ from typing import NamedTuple
 
 ROOM = {'means': 16, 'trans': 256, 'ar': 112, 'var': 16}
 MODEL_CALLS = ('loglike', 'filter', 'smooth')
+NAMES = MODEL_CALLS + ('fit',)
+LENT = ('work', 'filtered', 'smoothed')
+TAKES = {'loglike': (0,), 'filter': (0, 1), 'smooth': (0, 1, 2), 'fit': (0, 2)}  # which of these a call is lent, in the order tried
 HUGE = 2 ** 64 - 1  # the largest count
 ZERO = '0' * 16
 MOST_REGIMES, MOST_WINDOWS, MOST_READINGS = 16, 256, 4096
@@ -32,6 +35,7 @@ class Case:
         self.blocks, self.order = k if sar else 1, p
         self.memory = None
         self.said = {}
+        self.max_iter, self.tol = 0, 0.0
 
     def part(self, name):
         """Count and values: as many as the fixed array has room for, zeros where the list ends before the count."""
@@ -52,6 +56,8 @@ class Case:
             count, values = self.part(name)
             shape = '%d %d ' % (self.blocks, self.order) if name == 'ar' else ''
             lines.append('%s %s%d' % (name, shape, count) + numbers(values))
+        if self.call == 'fit':
+            lines.append('fit %d %s' % (self.max_iter, bits(self.tol)))
         return '\n'.join(lines) + '\nrun\n'
 
 
@@ -74,13 +80,13 @@ class Head(NamedTuple):
         return 3 * rows * self.k ** (self.p + 1), rows * self.k, rows * self.k
 
     def lent(self):
-        """How many of the three the call takes."""
-        return MODEL_CALLS.index(self.call) + 1 if self.call in MODEL_CALLS else 0
+        """Which of the three the call takes."""
+        return TAKES.get(self.call, ())
 
     def short(self):
         """The length needed of the first one that is too short, or None."""
         needs = self.needs()
-        for i in range(self.lent()):
+        for i in self.lent():
             if needs and self.memory[i] < needs[i]:
                 return needs[i]
         return None
@@ -89,6 +95,11 @@ class Head(NamedTuple):
 def refusal_of(answer):
     """The number of an answer's refusal, 0 where there is none."""
     return int(answer['refusal'].split()[0]) if 'refusal' in answer else 0
+
+
+def ran(answer):
+    """Whether a model call ran: it answered, or refused while it ran."""
+    return 'running' in answer or refusal_of(answer) == 0
 
 
 def with_memory(answer, needed):

@@ -1,17 +1,21 @@
-"""Writes the recorded cases of crates/replay: record.py ORACLE FOLDER, ORACLE being the routed one.
-FOLDER/stdin has the cases and FOLDER/stdout the answers, in the lines that crates/replay/src/main.rt names."""
+"""Writes recorded cases for crates/replay: record.py ORACLE FOLDER calls|fits .., ORACLE being the routed one.
+FOLDER/stdin has the cases and FOLDER/stdout the answers, in the lines that README.md and crates/replay/src/main.rt name."""
+import itertools
 import random
 import subprocess
 import sys
 from collections import Counter
 
 import chains
+import fits
 import gen
-from protocol import HUGE, MODEL_CALLS, ZERO, bits, read_answers, refusal_of, with_memory
+from protocol import HUGE, LENT, MODEL_CALLS, NAMES, ZERO, bits, ran, read_answers, refusal_of, with_memory
 
 SEED = 1989
 PLACES = 25600  # what the program has of each memory
 READINGS = 40
+FIT_READINGS = 12
+FIT_CELLS = 6000  # windows of all rows of all passes of a fit
 WHOLE_PAIRS = [(2, 0), (2, 1), (2, 7), (3, 2), (4, 3), (16, 0), (16, 1)]  # with every call and every flag
 
 
@@ -24,13 +28,6 @@ def shortened(c):
     return c
 
 
-def with_flags(r, k, p, sar, svar):
-    while True:
-        c = gen.benign(r, k, p, length=p + 1 + r.randrange(12))
-        if (c.sar, c.svar) == (sar, svar):
-            return c
-
-
 def plain(r):
     """Every pair once, and some with every call and every flag."""
     for k, p in gen.PAIRS:
@@ -39,7 +36,7 @@ def plain(r):
         for call in MODEL_CALLS:
             for sar in (False, True):
                 for svar in (False, True):
-                    c = with_flags(r, k, p, sar, svar)
+                    c = gen.with_flags(r, k, p, sar, svar)
                     c.call = call
                     yield c
     for k, p in [(2, 1), (2, 7), (3, 3), (5, 2), (16, 1)]:
@@ -103,9 +100,68 @@ def short_of_memory(r):
         yield c
 
 
-def cases():
+# ---- the fits
+
+def brief(c):
+    """A fit of no more than 12 rows, whose passes do not take long."""
+    c.y = c.y[-(FIT_READINGS + c.p):]
+    c.max_iter = min(c.max_iter, max(1, FIT_CELLS // (len(c.y) * c.k ** (c.p + 1)))) if c.max_iter <= 50 else c.max_iter
+    return c
+
+
+def fits_plain(r):
+    """Every pair; some with every flag; every tolerance; order 0, where a constant series makes no difference."""
+    for k, p in fits.PAIRS:
+        yield brief(fits.with_passes(r, gen.benign(r, k, p, length=p + 2 + r.randrange(10)), [1, 2, 3]))
+    for (k, p), sar, svar in itertools.product([(2, 1), (2, 7), (3, 2), (16, 1)], (False, True), (False, True)):
+        yield brief(fits.with_passes(r, gen.with_flags(r, k, p, sar, svar), [2, 3]))
+    for tol in fits.TOLS:
+        c = fits.with_passes(r, gen.benign(r, 2, 1, chains.sticky, FIT_READINGS), [20])
+        c.tol = tol
+        yield c
+    for family in (gen.benign, gen.constant):
+        yield brief(fits.with_passes(r, family(r, 2, 0)))
+
+
+def fits_known(r):
+    return fits.known()
+
+
+def fits_nasty(r):
+    """Each family twice; those that have faults of their own at few windows."""
+    for family in dict.fromkeys(fits.FAMILIES):
+        for _ in range(2):
+            if family in (fits.at_fault, fits.short_memory, fits.order_zero):
+                yield family(r, *r.choice(fits.SMALL_PAIRS))
+            else:
+                yield brief(family(r, *r.choice(fits.USUAL_PAIRS)))
+
+
+def fits_faulty(r):
+    for c in fits.every_fault(r):
+        c.y = c.y[:4097]
+        yield c
+
+
+def fits_short_of_memory(r):
+    """Work memory and smoothed table: none, and one place less; all short at once, alone and beside another fault; no filtered
+    table, which a fit does not take."""
+    for lengths in ((0, None, None), (-1, None, None), (None, None, 0), (None, None, -1), (None, 0, None), (0, 0, 0)):
+        for fault in (None,) if lengths != (0, 0, 0) else (None, gen.bad_reading, gen.bad_mean, gen.other_flags):
+            c = fits.with_passes(r, gen.benign(r, *r.choice([(2, 1), (3, 2), (16, 1)]), length=5), [2])
+            if fault:
+                fault(r, c)
+            c.memory = tuple(need if n is None else need - 1 if n else 0 for n, need in zip(lengths, c.head().needs()))
+            yield c
+
+
+CALLS = (plain, nasty, faulty, refused_running, short_of_memory)
+FITS = (fits_plain, fits_known, fits_nasty, fits_faulty, fits_short_of_memory)
+
+
+def cases(makers):
     r = random.Random(SEED)
-    for make in (plain, nasty, faulty, refused_running, short_of_memory):
+    for make in makers:
         for i, c in enumerate(make(r)):
             c.id = '%s-%d' % (make.__name__, i)
             if c.memory is None:
@@ -119,24 +175,32 @@ def cases():
 def given(c):
     """A case as the program reads it."""
     parts = {name: c.part(name) for name in ('means', 'trans', 'ar', 'var')}
-    wholes = [MODEL_CALLS.index(c.call) + 1, c.k, c.p, c.sar, c.svar, *c.memory, len(c.y), parts['means'][0], parts['trans'][0],
+    wholes = [NAMES.index(c.call) + 1, c.k, c.p, c.sar, c.svar, *c.memory, len(c.y), parts['means'][0], parts['trans'][0],
               c.blocks, c.order, parts['ar'][0], parts['var'][0]]
     assert len(wholes) == 15 and all(0 <= n <= HUGE for n in wholes)
     numbers = c.y + parts['trans'][1] + parts['means'][1] + parts['ar'][1] + parts['var'][1]
-    return ['%016x' % n for n in wholes] + [bits(x) for x in numbers]
+    of_fit = ['%016x' % c.max_iter, bits(c.tol)] if c.call == 'fit' else []
+    return ['%016x' % n for n in wholes] + [bits(x) for x in numbers] + of_fit
+
+
+def fitted(answer):
+    """The fitted parameters, and that their other places are +0."""
+    names = ('trans', 'means', 'ar', 'var') if 'iterations' in answer else ()
+    return [word for name in names for word in answer[name].split() if len(word) == len(ZERO)] + ['0']
 
 
 def expected(c, answer):
     """What the program has to write. Memory past the needed lengths is as found, and so are the tables after a refusal."""
     head = c.head()
     answer = with_memory(answer, head.short())
-    refused = refusal_of(answer)
-    cleared = head.needs()[0] if refused == 0 or refused > 20 else 0
-    lines = ['%s %s' % (answer.get('refusal', '0 0 ' + ZERO), answer.get('loglik', ZERO)), '%d 0' % cleared]
-    for name in ('filtered', 'smoothed')[:head.lent() - 1]:
+    lines = ['%s %s' % (answer.get('refusal', '0 0 ' + ZERO), answer.get('loglik', ZERO))]
+    if c.call == 'fit':
+        lines.append('%s %s' % (answer.get('iterations', '0'), answer.get('converged', '0')))
+    lines.append('%d 0' % (head.needs()[0] if ran(answer) else 0))
+    for name in (LENT[i] for i in head.lent()[1:]):
         lines += answer[name].split()[2:] if name in answer else []
         lines.append('0')
-    return lines, refused
+    return lines + (fitted(answer) if c.call == 'fit' else []), refusal_of(answer)
 
 
 def write(path, lines):
@@ -146,7 +210,7 @@ def write(path, lines):
 
 if __name__ == '__main__':
     oracle, folder = sys.argv[1:3]
-    all_cases = list(cases())
+    all_cases = [c for what in sys.argv[3:] for c in cases({'calls': CALLS, 'fits': FITS}[what])]
     said = subprocess.run([oracle], input=''.join(c.text() for c in all_cases), capture_output=True, text=True, check=True).stdout
     stdin, stdout, refusals = [], [], Counter()
     for c, (ident, answer) in zip(all_cases, read_answers(said.splitlines()), strict=True):

@@ -11,4 +11,5 @@ mod spec;
 pub use error::RegimeError;
 pub use model::MarkovSwitchingAr;
 pub use params::MsarParams;
+pub use results::FitResult;
 pub use spec::MsarSpec;

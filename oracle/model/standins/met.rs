@@ -1,9 +1,10 @@
-//! Where the Rust met a refusal, which its errors 22 and 23 do not say. The lines that build.sh adds to the routed copy of
-//! model.rs write it here; they do no arithmetic.
+//! Where the Rust met a refusal, which most of its errors do not say, and how often its filter began. The lines that build.sh
+//! adds to the routed copies of model.rs and params.rs write it here; they do no arithmetic.
 use std::cell::Cell;
 
 thread_local! {
     static MET: Cell<Option<(usize, f64)>> = const { Cell::new(None) };
+    static BEGUN: Cell<usize> = const { Cell::new(0) };
 }
 
 pub fn at(place: usize, value: f64) {
@@ -13,4 +14,13 @@ pub fn at(place: usize, value: f64) {
 /// Place and value of the last refusal, where they were written since the last call.
 pub fn take() -> Option<(usize, f64)> {
     MET.take()
+}
+
+pub fn began() {
+    BEGUN.set(BEGUN.get() + 1);
+}
+
+/// How often the filter began since the last call.
+pub fn begun() -> usize {
+    BEGUN.take()
 }
