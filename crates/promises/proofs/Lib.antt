@@ -1,2 +1,9 @@
 -- document 01's twelve proved examples, as far as their parts stand
 pub mod Twelve
+-- ---- demand 3, of the tables that the calls write. In the order to read:
+-- what sums, products, quotients and exponentials of numbers not below zero are
+pub mod Signs
+-- sums over lists are sums upward
+pub mod Lists
+-- rows of weights divided by their sum, for any predictions and densities
+pub mod Update

@@ -1,0 +1,2 @@
+-- demand 3 of the tables that the calls write
+pub mod Demand
