@@ -7,3 +7,7 @@ pub mod Signs
 pub mod Lists
 -- rows of weights divided by their sum, for any predictions and densities
 pub mod Update
+-- the filter's rows are such rows
+pub mod Filtered
+-- the tables of the calls
+pub mod Tables

@@ -1,10 +1,10 @@
 -- The sums over lists of crates/rounding are document 01's sums upward; those over a label's places run over i, i + k, i + 2·k, .. Assumes nothing.
-use mathlib.Core.Path.{_≡_, refl, sym, ap, ap₂, _∙_}
+use mathlib.Core.Path.{_≡_, refl, ap, _∙_}
 use mathlib.Core.Bool.{Bool, true, false, cond}
 use mathlib.Core.List.{List, [], _∷_, _++_, map}
 use mathlib.Core.Logic.{inl, inr}
 use Prim.Native.Nat.{ℕ, zero, suc, _+_, _*_, _%_, _<_, _≤_, zero-le}
-use native.Mathlib.Nat.{add-zero, zero-add, add-suc, add-comm, suc-mul, zero-mul, eq-or-lt-of-le, ne-of-lt, ne-of-gt, le-of-suc-le-suc, not-suc-le-zero, le-refl}
+use native.Mathlib.Nat.{add-zero, zero-add, add-suc, add-comm, suc-mul, zero-mul, eq-or-lt-of-le, ne-of-lt, ne-of-gt, le-refl}
 use native.Mathlib.Omega.{arith}
 use borrow.Author.Tests.{eq-eqb, ne-eqb, lt-ltb, le-ltb}
 use lib.Arith.{digits-mod}

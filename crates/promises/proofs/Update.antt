@@ -4,12 +4,11 @@ use mathlib.Core.Path.{_≡_, refl, sym, ap, ap₂, subst, _∙_}
 use mathlib.Core.Bool.{true}
 use mathlib.Core.List.{List}
 use Prim.Native.Nat.{ℕ, zero, suc, _+_, _*_, _^_, _<_, _≤_}
-use native.Mathlib.Nat.{pow-suc, mul-comm}
+use native.Mathlib.Nat.{pow-suc}
 use native.Mathlib.Omega.{arith}
 use lib.Arith.{digits-lt}
 use lib.Dec.{T}
-use lib.ListN.{length}
-use lib.Ieee.{Float, binary64, lt, mul}
+use lib.Ieee.{Float, binary64, lt}
 use lib.Ieee.Fits.{and-l, and-r, mul-fits}
 use lib.Ieee.Scale.{finite}
 use Rattle.number.specs.Number.{_⊗_, _⊘_, zero⁺, usable}
@@ -25,7 +24,7 @@ use Rattle.rounding.proofs.Rows.{demand-3-of}
 use Rattle.rows.specs.Rows.{probability}
 use Rattle.rows.specs.Steps.{labelSum}
 use Rattle.rows.proofs.Rows.{label-sum-is}
-use Rattle.promises.specs.Demand.{NotBelow, NearOne}
+use Rattle.promises.specs.Demand.{NotBelow, exactTotal, unity, allowed, NearOne}
 use Rattle.promises.proofs.Signs.{as-weight, product-not-below, quotient-not-below}
 use Rattle.promises.proofs.Lists.{total-tab, map-tab, every-tab, part-tab}
 
@@ -41,8 +40,8 @@ near-same k m x x′ e h =
     let t = sumTo-ext (λ s. inUnits binary64 (x s)) (λ s. inUnits binary64 (x′ s)) k (λ s l. ap (inUnits binary64) (e s l)) in
     record {
       each = λ s l. subst (λ (v : Float). T (good binary64 v)) (e s l) (h .each s l);
-      not-above = subst (λ (n : ℕ). n ≤ 2 ^ 1074 + m * 2 ^ 1022) t (h .not-above);
-      not-below = subst (λ (n : ℕ). 2 ^ 1074 ≤ n + m * 2 ^ 1022) t (h .not-below);
+      not-above = subst (λ (n : ℕ). n ≤ unity + allowed m) t (h .not-above);
+      not-below = subst (λ (n : ℕ). unity ≤ n + allowed m) t (h .not-below);
     }
 
 usable-parts : (x : Float) → usable x ≡ true → T (finite x) × T (lt zero⁺ x)
@@ -84,8 +83,8 @@ module _ (k p : ℕ) (pos : 0 < k) (few : k ^ suc p ≤ 256) (weight : ℕ → F
         near-same k m (shares.probability binary64 k (tab weight m)) (probability k p row) as-share
         (record {
           each = λ s _. d .each s;
-          not-above = subst (λ (n : ℕ). sumTo (λ s. inUnits binary64 (shares.probability binary64 k (tab weight m) s)) k ≤ 2 ^ 1074 + n * 2 ^ 1022) long (d .near .0);
-          not-below = subst (λ (n : ℕ). 2 ^ 1074 ≤ sumTo (λ s. inUnits binary64 (shares.probability binary64 k (tab weight m) s)) k + n * 2 ^ 1022) long (d .near .1);
+          not-above = subst (λ (n : ℕ). exactTotal k (shares.probability binary64 k (tab weight m)) ≤ unity + allowed n) long (d .near .0);
+          not-below = subst (λ (n : ℕ). unity ≤ exactTotal k (shares.probability binary64 k (tab weight m)) + allowed n) long (d .near .1);
         })
 
     -- and the row has none below zero

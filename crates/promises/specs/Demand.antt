@@ -28,11 +28,18 @@ NotBelow x = lt x zero⁺ ≡ false
 abbrev pub exactTotal : ℕ → (ℕ → Float) → ℕ
 exactTotal k x = sumTo (λ s. inUnits binary64 (x s)) k
 
+-- one, and m / 2 ^ 52, in these units
+abbrev pub unity : ℕ
+unity = 2 ^ 1074
+
+abbrev pub allowed : ℕ → ℕ
+allowed m = m * 2 ^ 1022
+
 -- k probabilities that come from m windows: each is finite and at least zero, and their exact total differs from one by at most m / 2 ^ 52
 pub record NearOne (k m : ℕ) (x : ℕ → Float) : Type 0 where
   pub each : (s : ℕ) → s < k → T (good binary64 (x s))
-  pub not-above : exactTotal k x ≤ 2 ^ 1074 + m * 2 ^ 1022
-  pub not-below : 2 ^ 1074 ≤ exactTotal k x + m * 2 ^ 1022
+  pub not-above : exactTotal k x ≤ unity + allowed m
+  pub not-below : unity ≤ exactTotal k x + allowed m
 
 -- so is every row of a table: n = T - p rows of k probabilities, one row after another, and m = k ^ (p + 1)
 abbrev pub Demand3 : MsarParams → List Float → List Float → Type 0
