@@ -11,3 +11,4 @@ pub mod Update
 pub mod Filtered
 -- the tables of the calls
 pub mod Tables
+pub mod OneOutcome
