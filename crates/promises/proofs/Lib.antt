@@ -11,4 +11,5 @@ pub mod Update
 pub mod Filtered
 -- the tables of the calls
 pub mod Tables
+-- ---- one outcome of each contract
 pub mod OneOutcome
