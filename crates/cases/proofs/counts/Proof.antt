@@ -1,25 +1,21 @@
+-- `cases::counts`: the window count.
 use mathlib.Core.Path.{sym, _∙_}
 use borrow.Author.Needs.{needs}
 use Rattle.cases.proofs.counts.Statement.{statement}
 use Rattle.cases.proofs.counts.Tie as tie
 
--- src/main.rt:123:11
 windows-of-requires : tie.Need-windows-of-requires
 windows-of-requires c κs = search needs
 
--- src/main.rt:124:24
 enum-known-count : tie.Need-enum-known-count
 enum-known-count c = search needs
 
--- src/main.rt:125:32
 enum-told : tie.Need-enum-told
 enum-told c = search needs
 
--- src/main.rt:120:1
 returns : tie.Need-returns
 returns c = rw (sym (c .before .before .before .windows-of .ensures) ∙ c .before .count .given .1)
 
--- src/main.rt:120:1
 returns-2 : tie.Need-returns-2
 returns-2 c = rw (sym (c .before .before .windows-of .ensures) ∙ c .enum-told .given .1)
 

@@ -1,24 +1,20 @@
+-- `cases::failed`: a check that failed so.
 use borrow.Author.Needs.{needs}
 use Rattle.cases.proofs.failed.Statement.{statement}
 use Rattle.cases.proofs.failed.Tie as tie
 
--- src/main.rt:148:26
 enum-told : tie.Need-enum-told
 enum-told c = search needs
 
--- src/main.rt:149:23
 enum-known-check : tie.Need-enum-known-check
 enum-known-check c = search needs
 
--- src/main.rt:149:29
 says-requires : tie.Need-says-requires
 says-requires c κs = search needs
 
--- src/main.rt:144:1
 returns : tie.Need-returns
 returns c = rw (c .enum-told .given .1)
 
--- src/main.rt:144:1
 returns-2 : tie.Need-returns-2
 returns-2 c = rw (c .before .before .check .given .1) (c .says .ensures)
 

@@ -1,3 +1,4 @@
+-- `cases::in_units`: the significand, below 2 ^ 53.
 use native.Mathlib.Omega.{arith}
 use borrow.Author.Tests.{eq-eqb, ne-eqb}
 use borrow.Author.Needs.{needs}
@@ -5,20 +6,16 @@ use Rattle.cases.specs.Cases.{unitsOf}
 use Rattle.cases.proofs.in_units.Statement.{statement}
 use Rattle.cases.proofs.in_units.Tie as tie
 
--- src/main.rt:232:9
 pattern-requires : tie.Need-pattern-requires
 pattern-requires c κs = search needs
 
--- src/main.rt:234:9
 add-result : tie.Need-add-result
 add-result c = search needs
 
--- src/main.rt:229:1
 returns : tie.Need-returns
 unfolding unitsOf
 returns c = (rw (← c .before .pattern .ensures, eq-eqb _ _ (c .if1 .taken)), omega arith)
 
--- src/main.rt:229:1
 returns-2 : tie.Need-returns-2
 unfolding unitsOf
 returns-2 c = (rw (← c .before .pattern .ensures, ne-eqb _ _ (c .if1 .left)), omega arith)

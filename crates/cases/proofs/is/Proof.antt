@@ -1,17 +1,15 @@
+-- `cases::is`: the same pattern.
 use borrow.Author.Needs.{needs}
 use Rattle.cases.specs.Cases.{same}
 use Rattle.cases.proofs.is.Statement.{statement}
 use Rattle.cases.proofs.is.Tie as tie
 
--- src/main.rt:29:5
 pattern-requires : tie.Need-pattern-requires
 pattern-requires c κs = search needs
 
--- src/main.rt:29:27
 pattern-requires-2 : tie.Need-pattern-requires-2
 pattern-requires-2 c κs = search needs
 
--- src/main.rt:26:1
 returns : tie.Need-returns
 unfolding same
 returns c = rw (c .before .pattern .ensures, c .pattern2 .ensures)

@@ -1,3 +1,4 @@
+-- `cases::p10`: P10: what the functions answer is the example's.
 use mathlib.Core.Path.{ap, _∙_}
 use borrow.Author.Needs.{needs}
 use Rattle.refusal.specs.declared.Check.{Check}
@@ -7,19 +8,15 @@ use Rattle.cases.proofs.Values.{p10}
 use Rattle.cases.proofs.p10.Statement.{statement}
 use Rattle.cases.proofs.p10.Tie as tie
 
--- src/main.rt:271:12
 two-requires : tie.Need-two-requires
 two-requires c κs = search needs
 
--- src/main.rt:271:12
 check-requires : tie.Need-check-requires
 check-requires c κs = search needs
 
--- src/main.rt:271:5
 failed-requires : tie.Need-failed-requires
 failed-requires c κs = search needs
 
--- src/main.rt:268:1
 returns : tie.Need-returns
 returns c = c .failed .ensures ∙ ap (λ (x : Check). fails x 14 1) (c .before .check .ensures ∙ ap parameterCheck (c .before .before .two .ensures)) ∙ p10
 

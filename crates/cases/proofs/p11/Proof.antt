@@ -1,3 +1,4 @@
+-- `cases::p11`: P11: what the functions answer is the example's.
 use mathlib.Core.Path.{sym, ap, _∙_}
 use borrow.Author.Needs.{needs}
 use Rattle.number.specs.Table.{_!_}
@@ -8,39 +9,30 @@ use Rattle.cases.proofs.Values.{both, is-same, p11, infinity}
 use Rattle.cases.proofs.p11.Statement.{statement}
 use Rattle.cases.proofs.p11.Tie as tie
 
--- src/main.rt:277:21
 two-requires : tie.Need-two-requires
 two-requires c κs = search needs
 
--- src/main.rt:277:9
 expected-durations-requires : tie.Need-expected-durations-requires
 expected-durations-requires c κs = search needs
 
--- src/main.rt:280:5
 passed-requires : tie.Need-passed-requires
 passed-requires c κs = search needs
 
--- src/main.rt:280:24
 array-read-is : tie.Need-array-read-is
 array-read-is c = search needs
 
--- src/main.rt:280:21
 is-requires : tie.Need-is-requires
 is-requires c κs = search needs
 
--- src/main.rt:280:45
 array-read-is-2 : tie.Need-array-read-is-2
 array-read-is-2 c = search needs
 
--- src/main.rt:280:56
 of-pattern-requires : tie.Need-of-pattern-requires
 of-pattern-requires c κs = search needs
 
--- src/main.rt:280:42
 is-requires-2 : tie.Need-is-requires-2
 is-requires-2 c κs = search needs
 
--- src/main.rt:274:1
 returns : tie.Need-returns
 returns c =
     let s = c .before .before .before .before .before .expected-durations .ensures ∙ ap durationsOf (c .before .before .before .before .before .before .two .ensures) ∙ p11 in

@@ -1,3 +1,4 @@
+-- `cases::p12`: P12: what the functions answer is the example's.
 use mathlib.Core.Path.{ap, _∙_}
 use borrow.Author.Needs.{needs}
 use borrow.Author.Tests.{eq-eqb}
@@ -6,23 +7,18 @@ use Rattle.cases.proofs.Values.{both, is-same, p12-four, p12-two}
 use Rattle.cases.proofs.p12.Statement.{statement}
 use Rattle.cases.proofs.p12.Tie as tie
 
--- src/main.rt:286:8
 root-requires : tie.Need-root-requires
 root-requires c κs = search needs
 
--- src/main.rt:286:5
 is-requires : tie.Need-is-requires
 is-requires c κs = search needs
 
--- src/main.rt:286:49
 root-requires-2 : tie.Need-root-requires-2
 root-requires-2 c κs = search needs
 
--- src/main.rt:286:33
 pattern-requires : tie.Need-pattern-requires
 pattern-requires c κs = search needs
 
--- src/main.rt:283:1
 returns : tie.Need-returns
 returns c = both (is-same (c .before .before .is .ensures) (c .before .before .before .root .ensures .0 ∙ p12-four)) (eq-eqb _ _ (c .pattern .ensures ∙ ap patternOf (c .before .root2 .ensures .0) ∙ p12-two))
 

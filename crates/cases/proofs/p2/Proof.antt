@@ -1,29 +1,24 @@
+-- `cases::p2`: P2: what the functions answer is the example's.
 use borrow.Author.Needs.{needs}
 use Rattle.window.specs.Windows.{labels, number}
 use Rattle.cases.proofs.p2.Statement.{statement}
 use Rattle.cases.proofs.p2.Tie as tie
 
--- src/main.rt:97:18
 powers-requires : tie.Need-powers-requires
 powers-requires c κs = search needs
 
--- src/main.rt:98:9
 successor-requires : tie.Need-successor-requires
 successor-requires c κs = search needs
 
--- src/main.rt:99:9
 successor-requires-2 : tie.Need-successor-requires-2
 successor-requires-2 c κs = search needs
 
--- src/main.rt:100:9
 predecessor-requires : tie.Need-predecessor-requires
 predecessor-requires c κs = search needs
 
--- src/main.rt:101:9
 predecessor-requires-2 : tie.Need-predecessor-requires-2
 predecessor-requires-2 c κs = search needs
 
--- src/main.rt:94:1
 returns : tie.Need-returns
 unfolding labels number
 returns c = rw (c .before .before .before .before .before .before .successor .ensures, c .before .before .before .before .successor2 .ensures, c .before .before .predecessor .ensures, c .predecessor2 .ensures)

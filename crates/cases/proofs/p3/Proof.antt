@@ -1,37 +1,30 @@
+-- `cases::p3`: P3: what the functions answer is the example's.
 use borrow.Author.Needs.{needs}
 use Rattle.spec.specs.Spec.{windowCount, specCheck}
 use Rattle.cases.proofs.p3.Statement.{statement}
 use Rattle.cases.proofs.p3.Tie as tie
 
--- src/main.rt:166:5
 counts-requires : tie.Need-counts-requires
 counts-requires c κs = search needs
 
--- src/main.rt:167:11
 counts-requires-2 : tie.Need-counts-requires-2
 counts-requires-2 c κs = search needs
 
--- src/main.rt:168:11
 refuses-requires : tie.Need-refuses-requires
 refuses-requires c κs = search needs
 
--- src/main.rt:169:11
 refuses-requires-2 : tie.Need-refuses-requires-2
 refuses-requires-2 c κs = search needs
 
--- src/main.rt:170:11
 refuses-requires-3 : tie.Need-refuses-requires-3
 refuses-requires-3 c κs = search needs
 
--- src/main.rt:171:11
 refuses-requires-4 : tie.Need-refuses-requires-4
 refuses-requires-4 c κs = search needs
 
--- src/main.rt:172:11
 refuses-requires-5 : tie.Need-refuses-requires-5
 refuses-requires-5 c κs = search needs
 
--- src/main.rt:163:1
 returns : tie.Need-returns
 unfolding windowCount specCheck
 returns c = rw (c .before .before .before .before .before .before .counts .ensures, c .before .before .before .before .before .counts2 .ensures, c .before .before .before .before .refuses .ensures, c .before .before .before .refuses2 .ensures, c .before .before .refuses3 .ensures, c .before .refuses4 .ensures, c .refuses5 .ensures)

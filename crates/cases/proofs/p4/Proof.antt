@@ -1,3 +1,4 @@
+-- `cases::p4`: P4: what the functions answer is the example's.
 use mathlib.Core.Path.{ap, _∙_}
 use borrow.Author.Needs.{needs}
 use Rattle.number.specs.Table.{_!_}
@@ -8,35 +9,27 @@ use Rattle.cases.proofs.Values.{both, is-same, p4}
 use Rattle.cases.proofs.p4.Statement.{statement}
 use Rattle.cases.proofs.p4.Tie as tie
 
--- src/main.rt:180:48
 two-requires : tie.Need-two-requires
 two-requires c κs = search needs
 
--- src/main.rt:180:9
 stationary-shares-requires : tie.Need-stationary-shares-requires
 stationary-shares-requires c κs = search needs
 
--- src/main.rt:183:5
 passed-requires : tie.Need-passed-requires
 passed-requires c κs = search needs
 
--- src/main.rt:183:24
 array-read-is : tie.Need-array-read-is
 array-read-is c = search needs
 
--- src/main.rt:183:21
 is-requires : tie.Need-is-requires
 is-requires c κs = search needs
 
--- src/main.rt:183:46
 array-read-is-2 : tie.Need-array-read-is-2
 array-read-is-2 c = search needs
 
--- src/main.rt:183:43
 is-requires-2 : tie.Need-is-requires-2
 is-requires-2 c κs = search needs
 
--- src/main.rt:177:1
 returns : tie.Need-returns
 returns c =
     let s = c .before .before .before .before .stationary-shares .ensures ∙ ap sharesOf (c .before .before .before .before .before .two .ensures) ∙ p4 in

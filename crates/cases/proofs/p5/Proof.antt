@@ -1,3 +1,4 @@
+-- `cases::p5`: P5: what the functions answer is the example's.
 use mathlib.Core.Path.{refl, ap, _∙_}
 use borrow.Author.Needs.{needs}
 use lib.Dec.{lit≤}
@@ -7,55 +8,42 @@ use Rattle.cases.proofs.Values.{both, is-same, order-1, p5, p5-row, pre
 use Rattle.cases.proofs.p5.Statement.{statement}
 use Rattle.cases.proofs.p5.Tie as tie
 
--- src/main.rt:189:9
 two-requires : tie.Need-two-requires
 two-requires c κs = search needs
 
--- src/main.rt:190:9
 stationary-shares-requires : tie.Need-stationary-shares-requires
 stationary-shares-requires c κs = search needs
 
--- src/main.rt:192:18
 powers-requires : tie.Need-powers-requires
 powers-requires c κs = search needs
 
--- src/main.rt:194:5
 first-row-requires : tie.Need-first-row-requires
 first-row-requires c κs = rw (c .before .before .before .before .before .before .two .ensures) (order-1, (c .before .before .before .powers .ensures, refl, refl))
 
--- src/main.rt:195:8
 array-read-is : tie.Need-array-read-is
 array-read-is c = search needs
 
--- src/main.rt:195:5
 is-requires : tie.Need-is-requires
 is-requires c κs = search needs
 
--- src/main.rt:195:29
 array-read-is-2 : tie.Need-array-read-is-2
 array-read-is-2 c = search needs
 
--- src/main.rt:195:26
 is-requires-2 : tie.Need-is-requires-2
 is-requires-2 c κs = search needs
 
--- src/main.rt:195:50
 array-read-is-3 : tie.Need-array-read-is-3
 array-read-is-3 c = search needs
 
--- src/main.rt:195:47
 is-requires-3 : tie.Need-is-requires-3
 is-requires-3 c κs = search needs
 
--- src/main.rt:195:71
 array-read-is-4 : tie.Need-array-read-is-4
 array-read-is-4 c = search needs
 
--- src/main.rt:195:68
 is-requires-4 : tie.Need-is-requires-4
 is-requires-4 c κs = search needs
 
--- src/main.rt:186:1
 returns : tie.Need-returns
 returns c =
     let q = c .before .before .before .before .before .before .before .before .before .before .before .two .ensures in

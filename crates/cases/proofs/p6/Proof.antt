@@ -1,3 +1,4 @@
+-- `cases::p6`: P6: what the functions answer is the example's.
 use mathlib.Core.Path.{ap, _∙_}
 use borrow.Author.Needs.{needs}
 use Rattle.stationary.specs.Stationary.{sharesOf}
@@ -7,19 +8,15 @@ use Rattle.cases.proofs.Values.{p6}
 use Rattle.cases.proofs.p6.Statement.{statement}
 use Rattle.cases.proofs.p6.Tie as tie
 
--- src/main.rt:201:48
 two-requires : tie.Need-two-requires
 two-requires c κs = search needs
 
--- src/main.rt:201:9
 stationary-shares-requires : tie.Need-stationary-shares-requires
 stationary-shares-requires c κs = search needs
 
--- src/main.rt:203:5
 failed-requires : tie.Need-failed-requires
 failed-requires c κs = search needs
 
--- src/main.rt:198:1
 returns : tie.Need-returns
 returns c = c .failed .ensures ∙ ap (λ (x : Shares). fails (x .check) 21 0) (c .before .stationary-shares .ensures ∙ ap sharesOf (c .before .before .two .ensures) ∙ p6)
 

@@ -1,3 +1,4 @@
+-- `cases::p7`: P7: what the functions answer is the example's.
 use mathlib.Core.Path.{refl, _∙_}
 use borrow.Author.Needs.{needs}
 use lib.Dec.{lit≤}
@@ -5,43 +6,33 @@ use Rattle.cases.proofs.Values.{both, is-same, order-0, p7-row, later}
 use Rattle.cases.proofs.p7.Statement.{statement}
 use Rattle.cases.proofs.p7.Tie as tie
 
--- src/main.rt:209:35
 two-requires : tie.Need-two-requires
 two-requires c κs = search needs
 
--- src/main.rt:209:17
 steps-requires : tie.Need-steps-requires
 steps-requires c κs = rw (c .two .ensures) (order-0, refl)
 
--- src/main.rt:211:5
 array-write-previous : tie.Need-array-write-previous
 array-write-previous c = search needs
 
--- src/main.rt:212:5
 array-write-previous-2 : tie.Need-array-write-previous-2
 array-write-previous-2 c = search needs
 
--- src/main.rt:214:5
 later-row-requires : tie.Need-later-row-requires
 later-row-requires c κs = search needs
 
--- src/main.rt:215:8
 array-read-is : tie.Need-array-read-is
 array-read-is c = search needs
 
--- src/main.rt:215:5
 is-requires : tie.Need-is-requires
 is-requires c κs = search needs
 
--- src/main.rt:215:26
 array-read-is-2 : tie.Need-array-read-is-2
 array-read-is-2 c = search needs
 
--- src/main.rt:215:23
 is-requires-2 : tie.Need-is-requires-2
 is-requires-2 c κs = search needs
 
--- src/main.rt:206:1
 returns : tie.Need-returns
 returns c =
     let row = c .before .before .later-row .ensures in

@@ -1,3 +1,4 @@
+-- `cases::p8`: P8: what the functions answer is the example's.
 use Prim.Native.Nat.{ℕ, _+_}
 use mathlib.Core.Path.{ap₂, _∙_}
 use borrow.Author.Needs.{needs}
@@ -6,79 +7,60 @@ use Rattle.cases.proofs.Values.{p8}
 use Rattle.cases.proofs.p8.Statement.{statement}
 use Rattle.cases.proofs.p8.Tie as tie
 
--- src/main.rt:249:5
 array-write-row : tie.Need-array-write-row
 array-write-row c = search needs
 
--- src/main.rt:250:5
 array-write-row-2 : tie.Need-array-write-row-2
 array-write-row-2 c = search needs
 
--- src/main.rt:251:5
 array-write-row-3 : tie.Need-array-write-row-3
 array-write-row-3 c = search needs
 
--- src/main.rt:252:9
 sum-of-requires : tie.Need-sum-of-requires
 sum-of-requires c κs = search needs
 
--- src/main.rt:253:5
 divide-requires : tie.Need-divide-requires
 divide-requires c κs = search needs
 
--- src/main.rt:256:26
 slice-aggregate-store : tie.Need-slice-aggregate-store
 slice-aggregate-store c = search needs
 
--- src/main.rt:256:5
 store-requires : tie.Need-store-requires
 store-requires c κs = search needs
 
--- src/main.rt:257:20
 slice-aggregate-tabulate : tie.Need-slice-aggregate-tabulate
 slice-aggregate-tabulate c = search needs
 
--- src/main.rt:257:39
 slice-aggregate-tabulate-2 : tie.Need-slice-aggregate-tabulate-2
 slice-aggregate-tabulate-2 c = search needs
 
--- src/main.rt:257:5
 tabulate-requires : tie.Need-tabulate-requires
 tabulate-requires c κs = search needs
 
--- src/main.rt:259:14
 array-read-in-units : tie.Need-array-read-in-units
 array-read-in-units c = search needs
 
--- src/main.rt:259:5
 in-units-requires : tie.Need-in-units-requires
 in-units-requires c κs = search needs
 
--- src/main.rt:259:35
 array-read-in-units-2 : tie.Need-array-read-in-units-2
 array-read-in-units-2 c = search needs
 
--- src/main.rt:259:26
 in-units-requires-2 : tie.Need-in-units-requires-2
 in-units-requires-2 c κs = search needs
 
--- src/main.rt:259:5
 add-result : tie.Need-add-result
 add-result c = search needs
 
--- src/main.rt:259:56
 array-read-in-units-3 : tie.Need-array-read-in-units-3
 array-read-in-units-3 c = search needs
 
--- src/main.rt:259:47
 in-units-requires-3 : tie.Need-in-units-requires-3
 in-units-requires-3 c κs = search needs
 
--- src/main.rt:259:5
 add-result-2 : tie.Need-add-result-2
 add-result-2 c = search needs
 
--- src/main.rt:245:1
 returns : tie.Need-returns
 returns c =
     eq-eqb _ _

@@ -1,29 +1,24 @@
+-- `cases::refuses`: the refusal of a spec.
 use mathlib.Core.Path.{sym, _∙_}
 use borrow.Author.Needs.{needs}
 use Rattle.cases.proofs.refuses.Statement.{statement}
 use Rattle.cases.proofs.refuses.Tie as tie
 
--- src/main.rt:133:11
 windows-of-requires : tie.Need-windows-of-requires
 windows-of-requires c κs = search needs
 
--- src/main.rt:134:30
 enum-told : tie.Need-enum-told
 enum-told c = search needs
 
--- src/main.rt:135:26
 enum-known-r : tie.Need-enum-known-r
 enum-known-r c = search needs
 
--- src/main.rt:135:32
 says-requires : tie.Need-says-requires
 says-requires c κs = search needs
 
--- src/main.rt:130:1
 returns : tie.Need-returns
 returns c = rw (sym (c .before .before .windows-of .ensures) ∙ c .enum-told .given .1)
 
--- src/main.rt:130:1
 returns-2 : tie.Need-returns-2
 returns-2 c = rw (sym (c .before .before .before .before .windows-of .ensures) ∙ c .before .before .r .given .1) (c .says .ensures)
 

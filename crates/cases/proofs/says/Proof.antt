@@ -1,16 +1,14 @@
+-- `cases::says`: number and place of the refusal.
 use borrow.Author.Needs.{needs}
 use Rattle.cases.proofs.says.Statement.{statement}
 use Rattle.cases.proofs.says.Tie as tie
 
--- src/main.rt:141:6
 number-requires : tie.Need-number-requires
 number-requires c κs = search needs
 
--- src/main.rt:141:31
 place-requires : tie.Need-place-requires
 place-requires c κs = search needs
 
--- src/main.rt:138:1
 returns : tie.Need-returns
 returns c = rw (c .before .number .ensures, c .place .ensures)
 

@@ -1,33 +1,27 @@
+-- `cases::sum_of`: the sum upward of three places.
 use borrow.Author.Needs.{needs}
 use Rattle.cases.proofs.Values.{sum-three}
 use Rattle.cases.proofs.sum_of.Statement.{statement}
 use Rattle.cases.proofs.sum_of.Tie as tie
 
--- src/main.rt:228:25
 slice-aggregate-store : tie.Need-slice-aggregate-store
 slice-aggregate-store c = search needs
 
--- src/main.rt:228:5
 store-requires : tie.Need-store-requires
 store-requires c κs = search needs
 
--- src/main.rt:229:20
 slice-aggregate-tabulate : tie.Need-slice-aggregate-tabulate
 slice-aggregate-tabulate c = search needs
 
--- src/main.rt:229:39
 slice-aggregate-tabulate-2 : tie.Need-slice-aggregate-tabulate-2
 slice-aggregate-tabulate-2 c = search needs
 
--- src/main.rt:229:5
 tabulate-requires : tie.Need-tabulate-requires
 tabulate-requires c κs = search needs
 
--- src/main.rt:230:5
 array-read-result : tie.Need-array-read-result
 array-read-result c = search needs
 
--- src/main.rt:223:1
 returns : tie.Need-returns
 returns c = sum-three (c .before .before .before .before .before .before .before .args .row .now) (c .before .before .before .before .before .store .ensures) (c .before .tabulate .ensures)
 
