@@ -11,5 +11,7 @@ pub mod Update
 pub mod Filtered
 -- the tables of the calls
 pub mod Tables
+-- a call that meets what demand 3 asks first
+pub mod Witness
 -- ---- one outcome of each contract
 pub mod OneOutcome
