@@ -14,3 +14,9 @@ abbrev pub OneOutcome : {M : Type 1} (𝓤 : URA M) (T : Ended) → Clauses 𝓤
 OneOutcome 𝓤 T c =
     (κs : Lfts (T .signature .lifetimes)) (a : Args (T .signature) κs) (g : c κs a .ghost) (r r′ : Res (T .signature) κs) (ws ws′ : Lasts T κs a)
     → ent 𝓤 (conj 𝓤 (c κs a .ensures g r (atExit T κs a ws)) (c κs a .ensures g r′ (atExit T κs a ws′))) (fact 𝓤 ((r ≡ r′) × (ws ≡ ws′)))
+
+-- the same of a call that meets `requires`, where the contract determines the outcome only there
+abbrev pub OneOutcomeAsked : {M : Type 1} (𝓤 : URA M) (T : Ended) → Clauses 𝓤 T → Type 1
+OneOutcomeAsked 𝓤 T c =
+    (κs : Lfts (T .signature .lifetimes)) (a : Args (T .signature) κs) (g : c κs a .ghost) (r r′ : Res (T .signature) κs) (ws ws′ : Lasts T κs a)
+    → ent 𝓤 (conj 𝓤 (c κs a .requires g) (conj 𝓤 (c κs a .ensures g r (atExit T κs a ws)) (c κs a .ensures g r′ (atExit T κs a ws′)))) (fact 𝓤 ((r ≡ r′) × (ws ≡ ws′)))
