@@ -69,7 +69,7 @@ fn weigh_row(
 }
 
 // Each of the first m places divided by the likelihood.
-fn divide(weights: &mut [f64; 256], likelihood: f64, m: usize)
+pub fn divide(weights: &mut [f64; 256], likelihood: f64, m: usize)
     requires { ⌜ (m ≤ 256) × (length (now weights) ≡ 256) ⌝ }
     ensures { λ _. ⌜ now (weights .exit) ≡ fillAt 0 (λ a. now (weights .entry) ! a ⊘ likelihood) m (now (weights .entry)) ⌝ }
 {

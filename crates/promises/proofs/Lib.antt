@@ -1,2 +1,17 @@
 -- document 01's twelve proved examples, as far as their parts stand
 pub mod Twelve
+-- ---- demand 3, of the tables that the calls write. In the order to read:
+-- what sums, products, quotients and exponentials of numbers not below zero are
+pub mod Signs
+-- sums over lists are sums upward
+pub mod Lists
+-- rows of weights divided by their sum, for any predictions and densities
+pub mod Update
+-- the filter's rows are such rows
+pub mod Filtered
+-- the tables of the calls
+pub mod Tables
+-- a call that meets what demand 3 asks first
+pub mod Witness
+-- ---- one outcome of each contract
+pub mod OneOutcome

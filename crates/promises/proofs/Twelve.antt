@@ -1,5 +1,5 @@
--- Document 01's twelve proved examples, in one list with one theorem; each statement stands with the crate that it is about. P9 joins with the
--- fit. Assumes nothing.
+-- Document 01's twelve proved examples, in one list with one theorem; each statement stands with the crate that it is about. Of P9 the
+-- two variances stand here; its fit joins with the fit. Assumes nothing.
 use mathlib.Core.Path.{_≡_, ap, _∙_}
 use mathlib.Core.List.{List, [], _∷_}
 use lib.Ieee.{Float}
@@ -20,6 +20,7 @@ use Rattle.stationary.specs.declared.Shares.{Shares}
 use Rattle.params.proofs.Examples as parameters
 use Rattle.params.specs.declared.MsarParams.{MsarParams}
 use Rattle.params.specs.Checks.{parameterCheck}
+use Rattle.series.proofs.Examples as variances
 use Rattle.rows.specs.Rows.{rowOf}
 use Rattle.prediction.specs.Prediction.{firstPrediction}
 use Rattle.prediction.proofs.Examples as predictions
@@ -80,6 +81,7 @@ pub record Twelve : Type 0 where
   pub p5 : P5
   pub p5-p7 : predictions.Values
   pub p8 : P8
+  pub p9 : variances.Values
   pub p10-p11 : parameters.Values
   pub p12 : P12
   pub p3-p6-p10 : InNumbers
@@ -93,6 +95,7 @@ twelve =
       p5 = p5;
       p5-p7 = predictions.values;
       p8 = p8;
+      p9 = variances.values;
       p10-p11 = parameters.values;
       p12 = p12;
       p3-p6-p10 = in-numbers;

@@ -1,0 +1,26 @@
+-- `cases::p12`: P12: what the functions answer is the example's.
+use mathlib.Core.Path.{ap, _∙_}
+use borrow.Author.Needs.{needs}
+use borrow.Author.Tests.{eq-eqb}
+use Rattle.number.specs.Number.{patternOf}
+use Rattle.cases.proofs.Values.{both, is-same, p12-four, p12-two}
+use Rattle.cases.proofs.p12.Statement.{statement}
+use Rattle.cases.proofs.p12.Tie as tie
+
+root-requires : tie.Need-root-requires
+root-requires c κs = search needs
+
+is-requires : tie.Need-is-requires
+is-requires c κs = search needs
+
+root-requires-2 : tie.Need-root-requires-2
+root-requires-2 c κs = search needs
+
+pattern-requires : tie.Need-pattern-requires
+pattern-requires c κs = search needs
+
+returns : tie.Need-returns
+returns c = both (is-same (c .before .before .is .ensures) (c .before .before .before .root .ensures .0 ∙ p12-four)) (eq-eqb _ _ (c .pattern .ensures ∙ ap patternOf (c .before .root2 .ensures .0) ∙ p12-two))
+
+pub p12-spec : {M : Type 1} → statement M
+p12-spec = tie.close (tie.spec root-requires is-requires root-requires-2 pattern-requires returns)

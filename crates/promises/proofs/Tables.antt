@@ -1,0 +1,91 @@
+-- Demand 3 of the tables that the calls write: a call that answers was admitted and its run passed, so that the table has the filter's rows.
+-- Assumes nothing.
+use mathlib.Core.Path.{_≡_, refl, sym, ap, ap₂, subst, _∙_}
+use mathlib.Core.List.{List, []}
+use Prim.Native.Nat.{ℕ, _+_, _*_, _<_}
+use lib.Arith.{digits-lt, digits-div, digits-mod}
+use lib.ListN.{length}
+use lib.Ieee.{Float}
+use Rattle.number.specs.Table.{_!_, cell}
+use Rattle.number.proofs.Table.{fill-at}
+use Rattle.window.specs.Shape.{Shape}
+use Rattle.refusal.specs.declared.Check.{Check}
+use Rattle.refusal.specs.declared.Check.the-variants.{Passed, Failed}
+use Rattle.refusal.proofs.Checks.{both}
+use Rattle.spec.specs.declared.MsarSpec.{MsarSpec}
+use Rattle.params.specs.declared.MsarParams.{MsarParams}
+use Rattle.params.specs.Parameters.{k, p}
+use Rattle.params.specs.Checks.{parameterCheck}
+use Rattle.stationary.specs.Stationary.{solvedShares}
+use Rattle.binding.specs.Binding.{boundCheck, boundAfter, workNeed, tableNeed, memoryCheck, tablesCheck, paramsCheck, admittedCheck, admitted}
+use Rattle.binding.specs.declared.Tables.{Tables}
+use Rattle.binding.specs.declared.Tables.the-variants.{One, Two}
+use Rattle.rows.specs.Rows.{probability, resultAt}
+use Rattle.filter.specs.Filter.{filteredRow, rowCount, startShares, runCheck, answerOf}
+use Rattle.model.specs.Calls.{Outcome, called, filteredTable, filterCall, smoothCall}
+use Rattle.model.proofs.Admitted.{is-admitted}
+use Rattle.model.proofs.Runs.{run-says}
+use Rattle.promises.specs.Demand.{NotBelow, Demand3, Asked, Demand}
+use Rattle.promises.proofs.Update.{near-same}
+use Rattle.promises.proofs.Filtered.{filtered-near-one}
+
+-- ---- a call that answers
+
+-- it was not refused for what was handed in, and its outcome is the run's
+module _ (c : Check) (work filtered smoothed : List Float) (run : Outcome) (answers : called c work filtered smoothed run .answer .check ≡ Passed) where
+  pub was-admitted : (c ≡ Passed) × (called c work filtered smoothed run ≡ run)
+  was-admitted = go c answers
+    where
+      go : (c : Check) → called c work filtered smoothed run .answer .check ≡ Passed → (c ≡ Passed) × (called c work filtered smoothed run ≡ run)
+      go Passed e = (refl, refl)
+      go (Failed r) e = (e, cc)
+
+module _ (S : MsarSpec) (y : List Float) (q : MsarParams) (work : ℕ) (tables : Tables) (passed : admittedCheck S y q work tables ≡ Passed) where
+  shape : Shape (k q) (p q)
+  unfolding admitted
+  shape = is-admitted S y q work tables refl (ap (λ (c : Check). boundAfter c S y .check) passed) .shape
+
+  parameters : parameterCheck q ≡ Passed
+  unfolding admittedCheck paramsCheck
+  parameters =
+      let c₁ = both (boundCheck S y) passed in
+      let c₂ = both (memoryCheck work (workNeed S y)) (c₁ .1) in
+      let c₃ = both (tablesCheck tables (tableNeed S y)) (c₂ .1) in
+      both (parameterCheck q) (c₃ .1) .0
+
+  -- ---- the table of a run that passed
+
+  module _ (ran : runCheck q y ≡ Passed) (given : (s : ℕ) → s < k q → NotBelow (startShares q ! s)) (found : List Float) where
+    place : (i s : ℕ) → i < rowCount q y → s < k q
+        → probability (k q) (p q) (filteredRow q y (startShares q) i) s ≡ cell (k q) (filteredTable q y found) i s
+    unfolding filteredTable resultAt
+    place i s h l =
+        rw ran
+        (sym
+        (fill-at (resultAt (k q) (p q) (filteredRow q y (startShares q))) (rowCount q y * k q) found refl (i * k q + s) (digits-lt h l)
+        ∙ ap₂ (λ (r t : ℕ). probability (k q) (p q) (filteredRow q y (startShares q) r) t) (digits-div i l) (digits-mod i l)))
+
+    pub filtered-table : Demand3 q y (filteredTable q y found)
+    unfolding runCheck
+    filtered-table i h =
+        near-same _ _ _ _ (λ s l. place i s h l)
+        (filtered-near-one q y (startShares q) shape parameters given (rowCount q y) (both (solvedShares (k q) (q .transition) .check) ran .1) i h)
+
+-- ---- demand 3, of a call that is lent such tables, whatever its run leaves beside the filtered one
+
+call-keeps : (S : MsarSpec) (y : List Float) (q : MsarParams) (lent : ℕ) (tables : Tables) (work found smoothed : List Float) (run : Outcome)
+    → run .answer ≡ answerOf q y → run .filtered ≡ filteredTable q y found
+    → Asked q (called (admittedCheck S y q lent tables) work found smoothed run)
+    → Demand3 q y (called (admittedCheck S y q lent tables) work found smoothed run .filtered)
+call-keeps S y q lent tables work found smoothed run answer table asked =
+    let c = was-admitted (admittedCheck S y q lent tables) work found smoothed run (asked .answers) in
+    let ran = run-says q y answer (sym (ap (λ (o : Outcome). o .answer .check) (c .1)) ∙ asked .answers) in
+    subst (Demand3 q y) (sym (ap (λ (o : Outcome). o .filtered) (c .1) ∙ table)) (filtered-table S y q lent tables (c .0) ran (asked .shares) found)
+
+pub demand : Demand
+unfolding filterCall smoothCall
+demand =
+    record {
+      filter = λ S y q work filtered. call-keeps S y q (length work) (One (length filtered)) work filtered [] _ refl refl;
+      smooth = λ S y q work filtered smoothed. call-keeps S y q (length work) (Two (length filtered) (length smoothed)) work filtered smoothed _ refl refl;
+    }

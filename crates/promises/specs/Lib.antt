@@ -1,0 +1,4 @@
+-- demand 3 of the tables that the calls write
+pub mod Demand
+-- that a contract determines the outcome of a call
+pub mod OneOutcome
