@@ -6,7 +6,7 @@ ghost use Prim.Native.Nat.{_+_, _≤_};
 ghost use lib.ListN.{length};
 ghost use Rattle.number.specs.Table.{_!_, fillAt};
 ghost use Rattle.fit.specs.declared.Fitted.{Fitted};
-ghost use Rattle.c_interface.specs.Interface.{Spelled, spelled, windowsSpelled, Listed, listed, laidOut, flag, fitSpelled, numbersAfter};
+ghost use Rattle.c_interface.specs.Interface.{spelled, windowsSpelled, listed, laidOut, flag, fitSpelled, numbersAfter};
 use params::MsarParams;
 use refusal::Check;
 use refusal::Refusal;

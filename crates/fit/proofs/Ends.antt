@@ -8,7 +8,6 @@ use borrow.Author.Tests.{eqb-false}
 use lib.ListN.{length}
 use lib.Ieee.{Float}
 use Rattle.number.specs.Number.{_=?_, _⊗_, zero⁺, usable}
-use Rattle.refusal.specs.declared.Check.{Check}
 use Rattle.refusal.specs.declared.Check.the-variants.{Passed, Failed}
 use Rattle.refusal.specs.declared.Refusal.{Refusal}
 use Rattle.refusal.specs.declared.Refusal.the-variants.{OrderZero, SampleVariance}
@@ -27,14 +26,14 @@ use Rattle.binding.specs.declared.Bound.{Bound}
 use Rattle.binding.specs.declared.Tables.the-variants.{One}
 use Rattle.series.specs.Series.{sampleVariance}
 use Rattle.ridge.specs.Ridge.{small}
-use Rattle.filter.specs.Filter.{runCheck, loglikOf, answerOf}
+use Rattle.filter.specs.Filter.{answerOf}
 use Rattle.filter.specs.Steps.{windowsOf}
 use Rattle.filter.specs.declared.Answer.{Answer}
 use Rattle.model.specs.Calls.{cleared, smoothedTable}
 use Rattle.model.proofs.Runs.{rows-fit, run-says}
-use Rattle.model.proofs.Admitted.{Admitted, long-enough}
+use Rattle.model.proofs.Admitted.{Admitted}
 use Rattle.step.specs.Ready.{Ready}
-use Rattle.step.proofs.Kept.{Alike, Good, windows-alike, still-ready}
+use Rattle.step.proofs.Kept.{Alike, windows-alike, still-ready}
 use Rattle.fit.specs.declared.Course.the-variants.{Going, Converged, Refused}
 use Rattle.fit.specs.declared.State.{State}
 use Rattle.fit.specs.declared.Fitted.{Fitted}

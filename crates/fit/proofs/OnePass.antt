@@ -1,11 +1,11 @@
 -- The ways through a pass. Assumes nothing.
-use Prim.Native.Nat.{ℕ, suc, _+_, _-_, _*_, _^_, _<_, _≤_}
+use Prim.Native.Nat.{ℕ, _+_, _-_, _*_, _<_}
 use mathlib.Core.Path.{_≡_, refl, sym, ap, subst, _∙_}
 use mathlib.Core.Bool.{true, false}
 use mathlib.Core.List.{List}
 use native.Mathlib.Omega.{arith}
 use native.Mathlib.Numerals.{add-one}
-use lib.ListN.{length, drop}
+use lib.ListN.{drop}
 use lib.Ieee.{Float}
 use lib.Ieee.Scale.{finite}
 use Rattle.number.specs.Number.{zero⁺}
@@ -15,7 +15,6 @@ use Rattle.refusal.specs.declared.Refusal.{Refusal}
 use Rattle.refusal.specs.declared.Refusal.the-variants.{Loglike}
 use Rattle.params.specs.declared.MsarParams.{MsarParams}
 use Rattle.params.specs.declared.Built.{Built}
-use Rattle.params.specs.Parameters.{k, p}
 use Rattle.params.specs.Built.{nothing}
 use Rattle.rows.specs.Rows.{Same}
 use Rattle.rows.specs.Memory.{predictedFrom, filteredFrom}

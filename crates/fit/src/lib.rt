@@ -1,6 +1,6 @@
 // The fit by EM, in lent memory: passes of filter, smoother and step, and a closing pass.
 ghost use mathlib.Core.Path.{_≡_};
-ghost use Prim.Native.Nat.{ℕ, suc, _+_, _*_, _^_, _<_, _≤_};
+ghost use Prim.Native.Nat.{ℕ, _+_, _*_, _^_, _<_, _≤_};
 ghost use lib.ListN.{length, drop};
 ghost use mathlib.Core.Bool.{Bool};
 ghost use mathlib.Core.List.{List};
@@ -17,7 +17,7 @@ ghost use Rattle.model.specs.Calls.{cleared, smoothedTable};
 ghost use Rattle.step.specs.Ready.{Ready};
 ghost use Rattle.fit.specs.Fit.{stopped, _reaches_, stops, passOf, passesTo, fittedAfter, closed, fittedOf};
 ghost use Rattle.fit.specs.declared.Course.the-variants.{Going};
-ghost use Rattle.fit.specs.Calls.{fitCheck, fittedTable, FitOutcome, fitCall};
+ghost use Rattle.fit.specs.Calls.{fitCheck, fittedTable, fitCall};
 use binding::Tables;
 use params::Built;
 use params::MsarParams;

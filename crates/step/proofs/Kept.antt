@@ -7,7 +7,6 @@ use lib.ListN.{drop}
 use lib.Ieee.{Float}
 use Rattle.refusal.specs.declared.Check.{Check}
 use Rattle.refusal.specs.declared.Check.the-variants.{Passed, Failed}
-use Rattle.refusal.specs.declared.Refusal.{Refusal}
 use Rattle.params.specs.declared.MsarParams.{MsarParams}
 use Rattle.params.specs.declared.Built.{Built}
 use Rattle.params.specs.Parameters.{k, p}
@@ -24,9 +23,8 @@ use Rattle.means.specs.Means.{newMeans}
 use Rattle.means.proofs.Same.{new-means-same}
 use Rattle.coefficients.specs.Coefficients.{newAr}
 use Rattle.coefficients.proofs.Sums.{ar-same}
-use Rattle.variances.specs.Variances.{newVariances}
 use Rattle.variances.proofs.Sums.{variances-same}
-use Rattle.step.specs.Step.{withTables, withMeans, withAr, withVariances, withTransition, _leads_, improved, stepOf}
+use Rattle.step.specs.Step.{withMeans, withAr, withTransition, _leads_, improved, stepOf}
 use Rattle.step.specs.Ready.{Ready}
 
 -- ---- the counts of the parameters

@@ -1,18 +1,9 @@
 use Rattle.c_interface.proofs.Spelling.{fit-leaves}
-use Prim.Native.Nat.{ℕ, zero, suc, _+_, _*_, _-_, _/_, _%_, _^_, _<_, _≤_}
-use mathlib.Core.Path.{_≡_, refl, sym, ap, subst, _∙_}
-use mathlib.Core.List.{List, [], _∷_, _++_}
-use native.Mathlib.Omega.{arith}
-use borrow.Author.Needs.{needs, scaled-fits}
-use lib.ListN.{length, getD, set, replicate, take, drop}
+use Prim.Native.Nat.{_-_, _/_}
+use mathlib.Core.Path.{refl}
+use borrow.Author.Needs.{needs}
 use Rattle.c_interface.proofs.msar_fit.Statement.{statement}
 use Rattle.c_interface.proofs.msar_fit.Tie as tie
-use Rattle.c_interface.proofs.msar_fit.Reads as reads
-use Rattle.c_interface.proofs.msar_fit.Lts as lts
-use Rattle.c_interface.proofs.given.params_of.Reads as params-of-reads
-use Rattle.c_interface.proofs.told.lay_out.Reads as lay-out-reads
-use Rattle.c_interface.proofs.told.spell_fit.Reads as spell-fit-reads
-use Rattle.fit.proofs.fit.Reads as fit-reads
 
 -- src/lib.rt:138:9
 params-of-requires : tie.Need-params-of-requires

@@ -1,15 +1,8 @@
 use Rattle.fit.proofs.Ends.{answered-is}
-use Prim.Native.Nat.{ℕ, zero, suc, _+_, _*_, _-_, _/_, _%_, _^_, _<_, _≤_}
-use mathlib.Core.Path.{_≡_, refl, sym, ap, subst, _∙_}
-use mathlib.Core.List.{List, [], _∷_, _++_}
-use native.Mathlib.Omega.{arith}
-use borrow.Author.Needs.{needs, scaled-fits}
-use lib.ListN.{length, getD, set, replicate, take, drop}
+use Prim.Native.Nat.{_-_, _/_}
+use borrow.Author.Needs.{needs}
 use Rattle.fit.proofs.answered.Statement.{statement}
 use Rattle.fit.proofs.answered.Tie as tie
-use Rattle.fit.proofs.answered.Reads as reads
-use Rattle.fit.proofs.answered.Lts as lts
-use Rattle.params.proofs.tidy.passed.Reads as passed-reads
 
 -- src/lib.rt:191:9
 passed-requires : tie.Need-passed-requires

@@ -1,16 +1,10 @@
 use borrow.Author.Tests.{not-true, not-false, eq-eqb, ne-eqb}
 use Rattle.fit.proofs.Ends.{order-zero, no-variance, a-variance}
-use Prim.Native.Nat.{ℕ, zero, suc, _+_, _*_, _-_, _/_, _%_, _^_, _<_, _≤_}
-use mathlib.Core.Path.{_≡_, refl, sym, ap, subst, _∙_}
-use mathlib.Core.List.{List, [], _∷_, _++_}
-use native.Mathlib.Omega.{arith}
-use borrow.Author.Needs.{needs, scaled-fits}
-use lib.ListN.{length, getD, set, replicate, take, drop}
+use Prim.Native.Nat.{_-_, _/_}
+use mathlib.Core.Path.{sym, _∙_}
+use borrow.Author.Needs.{needs}
 use Rattle.fit.proofs.check.Statement.{statement}
 use Rattle.fit.proofs.check.Tie as tie
-use Rattle.fit.proofs.check.Reads as reads
-use Rattle.fit.proofs.check.Lts as lts
-use Rattle.number.proofs.is_usable.Reads as is-usable-reads
 
 -- src/lib.rt:276:9
 returns : tie.Need-returns

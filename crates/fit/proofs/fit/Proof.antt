@@ -5,21 +5,12 @@ use Rattle.binding.specs.declared.Tables.the-variants.{One}
 use Rattle.number.specs.Number.{_⊗_, zero⁺}
 use lib.Ieee.{Float}
 use mathlib.Core.Bool.{false}
-use Prim.Native.Nat.{ℕ, zero, suc, _+_, _*_, _-_, _/_, _%_, _^_, _<_, _≤_}
-use mathlib.Core.Path.{_≡_, refl, sym, ap, subst, _∙_}
-use mathlib.Core.List.{List, [], _∷_, _++_}
-use native.Mathlib.Omega.{arith}
-use borrow.Author.Needs.{needs, scaled-fits}
-use lib.ListN.{length, getD, set, replicate, take, drop}
+use Prim.Native.Nat.{zero, _-_, _/_}
+use mathlib.Core.Path.{refl, sym, ap, _∙_}
+use borrow.Author.Needs.{needs}
+use lib.ListN.{length}
 use Rattle.fit.proofs.fit.Statement.{statement}
 use Rattle.fit.proofs.fit.Tie as tie
-use Rattle.fit.proofs.fit.Reads as reads
-use Rattle.fit.proofs.fit.Lts as lts
-use Rattle.binding.proofs.admit.Reads as admit-reads
-use Rattle.fit.proofs.check.Reads as check-reads
-use Rattle.fit.proofs.refused.Reads as refused-reads
-use Rattle.fit.proofs.run_fit.Reads as run-fit-reads
-use Rattle.series.proofs.sample_variance.Reads as sample-variance-reads
 
 -- src/lib.rt:296:9
 admit-requires : tie.Need-admit-requires

@@ -1,22 +1,11 @@
 use Rattle.fit.proofs.OnePass.{run-refused, not-finite, converges, goes-on, step-is, ready-long, rest-kept}
 use borrow.Author.Tests.{not-true, not-false}
-use Prim.Native.Nat.{ℕ, zero, suc, _+_, _*_, _-_, _/_, _%_, _^_, _<_, _≤_}
-use mathlib.Core.Path.{_≡_, refl, sym, ap, subst, _∙_}
-use mathlib.Core.List.{List, [], _∷_, _++_}
+use Prim.Native.Nat.{_-_, _/_}
+use mathlib.Core.Path.{refl, sym, _∙_}
 use native.Mathlib.Omega.{arith}
-use borrow.Author.Needs.{needs, scaled-fits}
-use lib.ListN.{length, getD, set, replicate, take, drop}
+use borrow.Author.Needs.{needs}
 use Rattle.fit.proofs.one_pass.Statement.{statement}
 use Rattle.fit.proofs.one_pass.Tie as tie
-use Rattle.fit.proofs.one_pass.Reads as reads
-use Rattle.fit.proofs.one_pass.Lts as lts
-use Rattle.filter.proofs.run.Reads as run-reads
-use Rattle.fit.proofs.stepped.Reads as stepped-reads
-use Rattle.fit.proofs.stop.Reads as stop-reads
-use Rattle.fit.proofs.stops.Reads as stops-reads
-use Rattle.number.proofs.is_finite.Reads as is-finite-reads
-use Rattle.smoother.proofs.smooth.Reads as smooth-reads
-use Rattle.step.proofs.step.Reads as step-reads
 
 -- src/lib.rt:109:9
 run-requires : tie.Need-run-requires

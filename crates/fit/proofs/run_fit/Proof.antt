@@ -4,20 +4,11 @@ use Rattle.model.proofs.Runs.{all-cleared}
 use Rattle.number.specs.Number.{zero⁺}
 use native.Mathlib.Nat.{mul-le-mul}
 use mathlib.Core.Bool.{false}
-use Prim.Native.Nat.{ℕ, zero, suc, _+_, _*_, _-_, _/_, _%_, _^_, _<_, _≤_}
-use mathlib.Core.Path.{_≡_, refl, sym, ap, subst, _∙_}
-use mathlib.Core.List.{List, [], _∷_, _++_}
+use Prim.Native.Nat.{zero, _*_, _-_, _/_, _<_, _≤_}
 use native.Mathlib.Omega.{arith}
-use borrow.Author.Needs.{needs, scaled-fits}
-use lib.ListN.{length, getD, set, replicate, take, drop}
+use borrow.Author.Needs.{needs}
 use Rattle.fit.proofs.run_fit.Statement.{statement}
 use Rattle.fit.proofs.run_fit.Tie as tie
-use Rattle.fit.proofs.run_fit.Reads as reads
-use Rattle.fit.proofs.run_fit.Lts as lts
-use Rattle.fit.proofs.close.Reads as close-reads
-use Rattle.fit.proofs.passes.Reads as passes-reads
-use Rattle.fit.proofs.refused.Reads as refused-reads
-use Rattle.rows.proofs.clear.Reads as clear-reads
 
 -- HELP
 work-small : (c : tie.Start) → 3 * (c .args .n * c .args .m) < 4294967296

@@ -1,15 +1,9 @@
 use Rattle.fit.proofs.OnePass.{step-refused, step-passed}
-use Prim.Native.Nat.{ℕ, zero, suc, _+_, _*_, _-_, _/_, _%_, _^_, _<_, _≤_}
-use mathlib.Core.Path.{_≡_, refl, sym, ap, subst, _∙_}
-use mathlib.Core.List.{List, [], _∷_, _++_}
-use native.Mathlib.Omega.{arith}
-use borrow.Author.Needs.{needs, scaled-fits}
-use lib.ListN.{length, getD, set, replicate, take, drop}
+use Prim.Native.Nat.{_-_, _/_}
+use mathlib.Core.Path.{refl}
+use borrow.Author.Needs.{needs}
 use Rattle.fit.proofs.stepped.Statement.{statement}
 use Rattle.fit.proofs.stepped.Tie as tie
-use Rattle.fit.proofs.stepped.Reads as reads
-use Rattle.fit.proofs.stepped.Lts as lts
-use Rattle.fit.proofs.stop.Reads as stop-reads
 
 -- src/lib.rt:81:23
 enum-known-check : tie.Need-enum-known-check

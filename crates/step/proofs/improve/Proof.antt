@@ -1,18 +1,9 @@
 use Rattle.step.proofs.Ways.{means-refused, ar-refused, all-improved}
-use Prim.Native.Nat.{ℕ, zero, suc, _+_, _*_, _-_, _/_, _%_, _^_, _<_, _≤_}
-use mathlib.Core.Path.{_≡_, refl, sym, ap, subst, _∙_}
-use mathlib.Core.List.{List, [], _∷_, _++_}
-use native.Mathlib.Omega.{arith}
-use borrow.Author.Needs.{needs, scaled-fits}
-use lib.ListN.{length, getD, set, replicate, take, drop}
+use Prim.Native.Nat.{_-_, _/_}
+use mathlib.Core.Path.{refl}
+use borrow.Author.Needs.{needs}
 use Rattle.step.proofs.improve.Statement.{statement}
 use Rattle.step.proofs.improve.Tie as tie
-use Rattle.step.proofs.improve.Reads as reads
-use Rattle.step.proofs.improve.Lts as lts
-use Rattle.coefficients.proofs.new_ar.Reads as new-ar-reads
-use Rattle.means.proofs.new_means.Reads as new-means-reads
-use Rattle.params.proofs.tidy.refused.Reads as refused-reads
-use Rattle.variances.proofs.new_variances.Reads as new-variances-reads
 
 -- src/lib.rt:17:9
 new-means-requires : tie.Need-new-means-requires

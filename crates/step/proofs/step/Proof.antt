@@ -1,18 +1,10 @@
 use Rattle.step.proofs.Kept.{once-alike, still-ready, same-rows}
 use Rattle.step.proofs.Ways.{first-refused, second-refused, stepped}
-use Prim.Native.Nat.{ℕ, zero, suc, _+_, _*_, _-_, _/_, _%_, _^_, _<_, _≤_}
-use mathlib.Core.Path.{_≡_, refl, sym, ap, subst, _∙_}
-use mathlib.Core.List.{List, [], _∷_, _++_}
+use Prim.Native.Nat.{_-_, _/_}
 use native.Mathlib.Omega.{arith}
-use borrow.Author.Needs.{needs, scaled-fits}
-use lib.ListN.{length, getD, set, replicate, take, drop}
+use borrow.Author.Needs.{needs}
 use Rattle.step.proofs.step.Statement.{statement}
 use Rattle.step.proofs.step.Tie as tie
-use Rattle.step.proofs.step.Reads as reads
-use Rattle.step.proofs.step.Lts as lts
-use Rattle.counts.proofs.new_transition.Reads as new-transition-reads
-use Rattle.params.proofs.MsarParams.new.Reads as new-reads
-use Rattle.step.proofs.improve.Reads as improve-reads
 
 -- src/lib.rt:46:9
 improve-requires : tie.Need-improve-requires

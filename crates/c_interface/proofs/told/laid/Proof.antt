@@ -1,15 +1,10 @@
 use Rattle.c_interface.proofs.Spelling.{laid-is, still-long}
-use Prim.Native.Nat.{ℕ, zero, suc, _+_, _*_, _-_, _/_, _%_, _^_, _<_, _≤_}
-use mathlib.Core.Path.{_≡_, refl, sym, ap, subst, _∙_}
-use mathlib.Core.List.{List, [], _∷_, _++_}
+use Prim.Native.Nat.{_-_, _/_}
+use mathlib.Core.Path.{refl}
 use native.Mathlib.Omega.{arith}
-use borrow.Author.Needs.{needs, scaled-fits}
-use lib.ListN.{length, getD, set, replicate, take, drop}
+use borrow.Author.Needs.{needs}
 use Rattle.c_interface.proofs.told.laid.Statement.{statement}
 use Rattle.c_interface.proofs.told.laid.Tie as tie
-use Rattle.c_interface.proofs.told.laid.Reads as reads
-use Rattle.c_interface.proofs.told.laid.Lts as lts
-use Rattle.c_interface.proofs.told.put.Reads as put-reads
 
 -- src/told.rt:109:5
 put-requires : tie.Need-put-requires

@@ -1,16 +1,13 @@
 use lib.ListN.{length-set}
 use Rattle.number.specs.Table.{_!_, fillAt}
 use Rattle.number.proofs.Table.{fillAt-none, fillAt-more}
-use Prim.Native.Nat.{ℕ, zero, suc, _+_, _*_, _-_, _/_, _%_, _^_, _<_, _≤_}
-use mathlib.Core.Path.{_≡_, refl, sym, ap, subst, _∙_}
-use mathlib.Core.List.{List, [], _∷_, _++_}
+use Prim.Native.Nat.{_-_, _/_, _≤_}
+use mathlib.Core.Path.{_≡_, refl}
 use native.Mathlib.Omega.{arith}
-use borrow.Author.Needs.{needs, scaled-fits}
-use lib.ListN.{length, getD, set, replicate, take, drop}
+use borrow.Author.Needs.{needs}
+use lib.ListN.{length}
 use Rattle.c_interface.proofs.told.put.Statement.{statement}
 use Rattle.c_interface.proofs.told.put.Tie as tie
-use Rattle.c_interface.proofs.told.put.Reads as reads
-use Rattle.c_interface.proofs.told.put.Lts as lts
 
 abbrev Inv-loop : tie.InvT-loop
 Inv-loop numbers₀ start part n i₀ numbers i = (i ≤ n) × (length numbers ≡ 400) × (numbers ≡ fillAt start (λ j. part ! j) i numbers₀)

@@ -1,16 +1,8 @@
 use Rattle.c_interface.proofs.Spelling.{fit-said, fit-refused-said}
-use Prim.Native.Nat.{ℕ, zero, suc, _+_, _*_, _-_, _/_, _%_, _^_, _<_, _≤_}
-use mathlib.Core.Path.{_≡_, refl, sym, ap, subst, _∙_}
-use mathlib.Core.List.{List, [], _∷_, _++_}
-use native.Mathlib.Omega.{arith}
-use borrow.Author.Needs.{needs, scaled-fits}
-use lib.ListN.{length, getD, set, replicate, take, drop}
+use Prim.Native.Nat.{_-_, _/_}
+use borrow.Author.Needs.{needs}
 use Rattle.c_interface.proofs.told.spell_fit.Statement.{statement}
 use Rattle.c_interface.proofs.told.spell_fit.Tie as tie
-use Rattle.c_interface.proofs.told.spell_fit.Reads as reads
-use Rattle.c_interface.proofs.told.spell_fit.Lts as lts
-use Rattle.c_interface.proofs.told.flag.Reads as flag-reads
-use Rattle.c_interface.proofs.told.refuse.Reads as refuse-reads
 
 -- src/told.rt:88:41
 enum-told : tie.Need-enum-told
