@@ -1,10 +1,10 @@
 -- Blocks in arrays: that they fit, the table of a window row by row, and the answers of the blocks one after another. Assumes nothing.
-use Prim.Native.Nat.{ℕ, suc, _+_, _*_, _/_, _%_, _<_, _≤_}
+use Prim.Native.Nat.{ℕ, suc, _+_, _*_, _/_, _%_, _^_, _<_, _≤_}
 use mathlib.Core.Path.{_≡_, _∙_}
 use mathlib.Core.Bool.{true}
 use mathlib.Core.List.{List}
 use native.Mathlib.Numerals.{add-one}
-use native.Mathlib.Nat.{suc-mul, zero-mul, mul-le-mul, mul-le-mul-right, mod-lt, div-lt-iff-lt-mul}
+use native.Mathlib.Nat.{suc-mul, zero-mul, mul-le-mul, mul-le-mul-right, mod-lt, div-lt-iff-lt-mul, pow-zero, pow-suc, div-one, div-div-eq-div-mul}
 use native.Mathlib.Omega.{arith}
 use lib.Arith.{digits-div, digits-mod}
 use lib.ListN.{length, set, replicate}
@@ -12,6 +12,7 @@ use lib.Ieee.{Float, ne}
 use Rattle.number.specs.Number.{if_then_else_, _⊕_, _⊗_, _⊘_, zero⁺}
 use Rattle.number.specs.Table.{_!_, fillAt}
 use Rattle.number.proofs.Table.{fillAt-none, fillAt-ext, fillAt-past, fillAt-join, fillAt-long, fillAt-more, fill-at, fill-join, row-before}
+use Rattle.window.proofs.Windows.{label-labels}
 use Rattle.refusal.specs.Checks.{each}
 use Rattle.refusal.specs.declared.Refusal.{Refusal}
 use Rattle.refusal.specs.declared.Check.the-variants.{Passed, Failed}
@@ -20,7 +21,7 @@ use Rattle.params.specs.Parameters.{blockOf}
 use Rattle.ridge.specs.declared.Update.{Update}
 use Rattle.coefficients.specs.declared.Blocks.{Blocks}
 use Rattle.coefficients.specs.Coefficients.{blocksOf}
-use Rattle.coefficients.specs.Steps.{tableTerm, sideTerm, addedTo}
+use Rattle.coefficients.specs.Steps.{distanceOf, tableTerm, sideTerm, addedTo}
 
 -- ---- blocks of at most 7 coefficients, at most 16 of them
 
@@ -142,7 +143,22 @@ module _ (p : ℕ) (block : ℕ → Update) (ar : List Float) where
         fillAt-ext 0 (λ e. block (e / p) .values ! (e % p)) (n * p) ar (λ e. block′ (e / p) .values ! (e % p)) (λ e h. rw (same (e / p) (div-lt-iff-lt-mul pos .1 h))),
       )
 
--- ---- the centres of the next window
+-- ---- the distances by lag and label, and the labels of a window in turn: `rest` has those from lag l on
 
-pub base-next : (order a : ℕ) {base : ℕ} → base ≡ a * suc order → base + order + 1 ≡ (a + 1) * suc order
-base-next order a e = rw (e, add-one a, suc-mul a (suc order)) (omega arith)
+module _ {k order : ℕ} (hk : k ≤ 16) (ho : order ≤ 7) where
+  pub distances-fit : (order + 1) * k ≤ 128
+  distances-fit = let h : order + 1 ≤ 8 = omega arith in mul-le-mul h hk
+
+  pub distance-within : (l s : ℕ) → l ≤ order → s < k → l * k + s < 128
+  distance-within l s hl hs = let h : l < order + 1 = omega arith in omega (arith, distances-fit, row-before k l (order + 1) h)
+
+module _ (k a : ℕ) where
+  pub rest-first : a ≡ a / k ^ 0
+  rest-first = rw (pow-zero, div-one)
+
+  pub rest-next : (l : ℕ) {rest : ℕ} → rest ≡ a / k ^ l → rest / k ≡ a / k ^ (l + 1)
+  rest-next l e = rw (e, add-one l, pow-suc k l) (div-div-eq-div-mul a (k ^ l) k)
+
+  pub distance-read : (order : ℕ) (distances : List Float) (l : ℕ) {rest : ℕ} → l ≤ order → rest ≡ a / k ^ l → distances ! (l * k + rest % k) ≡ distanceOf k order distances a l
+  unfolding distanceOf
+  distance-read order distances l hl e = let h : l < suc order = omega arith in rw (e, label-labels k (suc order) a l h)

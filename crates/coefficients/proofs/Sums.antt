@@ -1,10 +1,9 @@
 -- The sums that the code makes window by window and row by row are those of the definition, and so are the blocks that they give; and what the rows hold
 -- past their first m places does not count. Assumes nothing.
-use Prim.Native.Nat.{ℕ, suc, _+_, _-_, _*_, _/_, _%_, _<_, _≤_}
+use Prim.Native.Nat.{ℕ, suc, _+_, _*_, _/_, _%_, _<_, _≤_}
 use mathlib.Core.Path.{_≡_, _∙_}
 use mathlib.Core.Bool.{_&&_}
 use mathlib.Core.List.{List}
-use native.Mathlib.Numerals.{add-one}
 use native.Mathlib.Nat.{mod-lt, div-lt-iff-lt-mul, mul-pos}
 use native.Mathlib.Omega.{arith}
 use lib.Arith.{digits-lt, digits-div, digits-mod}
@@ -16,6 +15,7 @@ use Rattle.number.specs.Table.{_!_, fillAt}
 use Rattle.number.proofs.Sums.{where-ext}
 use Rattle.number.proofs.Table.{fillAt-ext, fill-at}
 use Rattle.window.specs.Windows.{label, labels}
+use Rattle.window.proofs.Windows.{label-below}
 use Rattle.rows.specs.Rows.{Same}
 use Rattle.rows.specs.Memory.{filteredFrom}
 use Rattle.rows.proofs.Places.{place}
@@ -25,20 +25,14 @@ use Rattle.smoothed.specs.Smoothed.{windowsOf, places, labelAt, distance}
 use Rattle.smoothed.proofs.Places.{label-there, weight-there, seen-same, precision-same}
 use Rattle.coefficients.specs.declared.Blocks.{Blocks}
 use Rattle.coefficients.specs.Coefficients.{blocksOf, inBlock, productAt, arCell, arSide, newBlock, newAr}
-use Rattle.coefficients.specs.Steps.{centreAt, distanceOf, tableTerm, sideTerm, addedTo, sumOn, counted, precisionOf, rowTable, rowSide, blockFrom}
+use Rattle.coefficients.specs.Steps.{distanceBy, distanceOf, tableTerm, sideTerm, addedTo, sumOn, counted, precisionOf, rowTable, rowSide, blockFrom}
 use Rattle.coefficients.proofs.Walk.{cells-more, row-summed, block-below}
 use Rattle.coefficients.proofs.Parts.{side-fits, table-fits, answers-ext}
 
--- ---- the centres
-
-pub centre-is : (q : MsarParams) (e : ℕ) {s : ℕ} → s ≡ label (labels (k q) (suc (p q)) (e / (p q + 1))) (e % (p q + 1)) → q .means ! s ≡ centreAt q e
-unfolding centreAt
-centre-is q e es = rw (es, add-one)
-
 -- ---- a window more of a row that stands from `from` on; l is what stood in the cells before the row
 
-module _ (work : List Float) (from a k count blocks : ℕ) (variances : List Float) (x : ℕ → ℕ → Float) (order : ℕ) (pos : 0 < order) (small : order ≤ 7) (s base : ℕ)
-    (es : s ≡ a % k) (below : s < 16) (eb : base ≡ a * suc order) (l : List Float) where
+module _ (work : List Float) (from a k count blocks : ℕ) (variances : List Float) (x : ℕ → ℕ → Float) (order : ℕ) (pos : 0 < order) (small : order ≤ 7) (s : ℕ)
+    (es : s ≡ a % k) (below : s < 16) (l : List Float) where
   window-counts : (w c : ℕ) → counted k blocks (drop from work) (c / w) a ≡ (ne (work ! (from + a)) zero⁺ && blockOf blocks s =? c / w)
   unfolding counted
   window-counts w c = rw (place work from a, es)
@@ -48,21 +42,21 @@ module _ (work : List Float) (from a k count blocks : ℕ) (variances : List Flo
   weight-is = rw (place work from a, es)
 
   table-term : (c : ℕ) → c < order * order
-      → tableTerm order (work ! (from + a) ⊘ variances ! blockOf count s) (x base) c
+      → tableTerm order (work ! (from + a) ⊘ variances ! blockOf count s) (x a) c
       ≡ rowTable order (precisionOf k count variances (drop from work)) x (blockOf blocks s * (order * order) + c) a
   unfolding rowTable
-  table-term c h = rw (weight-is, eb, digits-mod (blockOf blocks s) h)
+  table-term c h = rw (weight-is, digits-mod (blockOf blocks s) h)
 
   side-term : (c : ℕ) → c < order
-      → sideTerm (work ! (from + a) ⊘ variances ! blockOf count s) (x base) c
+      → sideTerm (work ! (from + a) ⊘ variances ! blockOf count s) (x a) c
       ≡ rowSide order (precisionOf k count variances (drop from work)) x (blockOf blocks s * order + c) a
   unfolding rowSide
-  side-term c h = rw (weight-is, eb, digits-mod (blockOf blocks s) h)
+  side-term c h = rw (weight-is, digits-mod (blockOf blocks s) h)
 
   module _ {m m′ : List Float} where
     pub window-tabled : 784 ≤ length l
         → m ≡ fillAt 0 (λ c. sumOn (l ! c) (counted k blocks (drop from work) (c / (order * order))) (rowTable order (precisionOf k count variances (drop from work)) x c) a) 784 l
-        → m′ ≡ (if ne (work ! (from + a)) zero⁺ then addedTo (blockOf blocks s) (order * order) (tableTerm order (work ! (from + a) ⊘ variances ! blockOf count s) (x base)) m else m)
+        → m′ ≡ (if ne (work ! (from + a)) zero⁺ then addedTo (blockOf blocks s) (order * order) (tableTerm order (work ! (from + a) ⊘ variances ! blockOf count s) (x a)) m else m)
         → m′ ≡ fillAt 0 (λ c. sumOn (l ! c) (counted k blocks (drop from work) (c / (order * order))) (rowTable order (precisionOf k count variances (drop from work)) x c) (a + 1)) 784 l
     window-tabled h e e′ =
         cells-more (λ c. counted k blocks (drop from work) (c / (order * order))) (rowTable order (precisionOf k count variances (drop from work)) x) 784 l h a e
@@ -71,7 +65,7 @@ module _ (work : List Float) (from a k count blocks : ℕ) (variances : List Flo
 
     pub window-sided : 112 ≤ length l
         → m ≡ fillAt 0 (λ c. sumOn (l ! c) (counted k blocks (drop from work) (c / order)) (rowSide order (precisionOf k count variances (drop from work)) x c) a) 112 l
-        → m′ ≡ (if ne (work ! (from + a)) zero⁺ then addedTo (blockOf blocks s) order (sideTerm (work ! (from + a) ⊘ variances ! blockOf count s) (x base)) m else m)
+        → m′ ≡ (if ne (work ! (from + a)) zero⁺ then addedTo (blockOf blocks s) order (sideTerm (work ! (from + a) ⊘ variances ! blockOf count s) (x a)) m else m)
         → m′ ≡ fillAt 0 (λ c. sumOn (l ! c) (counted k blocks (drop from work) (c / order)) (rowSide order (precisionOf k count variances (drop from work)) x c) (a + 1)) 112 l
     window-sided h e e′ =
         cells-more (λ c. counted k blocks (drop from work) (c / order)) (rowSide order (precisionOf k count variances (drop from work)) x) 112 l h a e
@@ -89,27 +83,28 @@ module _ (q : MsarParams) (y : List Float) (rows : ℕ → List Float) (i a : �
   unfolding counted inBlock
   test-here b = rw (weight-there q i h rows, label-now)
 
-  module _ (d : List Float) {centres : List Float} (e : centres ≡ fillAt 0 (centreAt q) (windowsOf q * suc (p q)) d) where
-    distance-here : (l : ℕ) → l ≤ p q → distanceOf y (p q + i) centres (a * suc (p q)) l ≡ distance q y (i * windowsOf q + a) l
-    unfolding distanceOf centreAt
+  module _ (positive : 0 < k q) (d : List Float) {distances : List Float} (e : distances ≡ fillAt 0 (distanceBy (k q) y (p q + i) (q .means)) (suc (p q) * k q) d) where
+    distance-here : (l : ℕ) → l ≤ p q → distanceOf (k q) (p q) distances a l ≡ distance q y (i * windowsOf q + a) l
+    unfolding distanceOf distanceBy
     distance-here l hl =
         let l′ : l < suc (p q) = omega arith in
-        rw (fill-at (centreAt q) (windowsOf q * suc (p q)) d e (a * suc (p q) + l) (digits-lt h l′), digits-div a l′, digits-mod a l′, digits-div i h, digits-mod i h)
+        let s′ = label-below (k q) positive (suc (p q)) a l l′ in
+        rw (fill-at (distanceBy (k q) y (p q + i) (q .means)) (suc (p q) * k q) d e (l * k q + label (labels (k q) (suc (p q)) a) l) (digits-lt l′ s′), digits-div l s′, digits-mod l s′, digits-div i h, digits-mod i h)
 
     product-here : (l j : ℕ) → l ≤ p q → j ≤ p q
-        → precisionOf (k q) (q .«variances_count») (q .variances) (rows i) a ⊗ distanceOf y (p q + i) centres (a * suc (p q)) l ⊗ distanceOf y (p q + i) centres (a * suc (p q)) j
+        → precisionOf (k q) (q .«variances_count») (q .variances) (rows i) a ⊗ distanceOf (k q) (p q) distances a l ⊗ distanceOf (k q) (p q) distances a j
         ≡ productAt q y rows l j (i * windowsOf q + a)
     unfolding precisionOf productAt
     product-here l j hl hj = rw (distance-here l hl, distance-here j hj, weight-there q i h rows, label-now)
 
     -- what it adds to the cells of the tables and of the sides
     module _ (pos : 0 < p q) (c : ℕ) where
-      table-here : rowTable (p q) (precisionOf (k q) (q .«variances_count») (q .variances) (rows i)) (distanceOf y (p q + i) centres) c a
+      table-here : rowTable (p q) (precisionOf (k q) (q .«variances_count») (q .variances) (rows i)) (distanceOf (k q) (p q) distances) c a
           ≡ productAt q y rows (suc (c % (p q * p q) / p q)) (suc (c % (p q * p q) % p q)) (i * windowsOf q + a)
       unfolding rowTable tableTerm
       table-here = product-here _ _ (div-lt-iff-lt-mul pos .1 (mod-lt c (mul-pos pos pos))) (mod-lt _ pos)
 
-      side-here : rowSide (p q) (precisionOf (k q) (q .«variances_count») (q .variances) (rows i)) (distanceOf y (p q + i) centres) c a
+      side-here : rowSide (p q) (precisionOf (k q) (q .«variances_count») (q .variances) (rows i)) (distanceOf (k q) (p q) distances) c a
           ≡ productAt q y rows (suc (c % p q)) 0 (i * windowsOf q + a)
       unfolding rowSide sideTerm
       side-here = product-here _ _ (mod-lt c pos) (omega arith)
@@ -128,29 +123,29 @@ abbrev pub rowsOf : MsarParams → List Float → ℕ → List Float
 rowsOf q work j = drop (filteredFrom (windowsOf q) j) work
 
 -- a row further
-module _ (q : MsarParams) (y work : List Float) (i m : ℕ) (w : m ≡ windowsOf q) (pos : 0 < p q) (d centres : List Float)
-    (ec : centres ≡ fillAt 0 (centreAt q) (m * suc (p q)) d) {now now′ : List Float} where
+module _ (q : MsarParams) (y work : List Float) (i m : ℕ) (w : m ≡ windowsOf q) (positive : 0 < k q) (pos : 0 < p q) (d distances : List Float)
+    (ed : distances ≡ fillAt 0 (distanceBy (k q) y (p q + i) (q .means)) (suc (p q) * k q) d) {now now′ : List Float} where
   pub tables-more : now ≡ fillAt 0 (tableSum q y (rowsOf q work) (i * windowsOf q)) 784 (replicate 784 zero⁺)
-      → now′ ≡ fillAt 0 (λ c. sumOn (now ! c) (counted (k q) (q .«ar_blocks») (drop (filteredFrom m i) work) (c / (p q * p q))) (rowTable (p q) (precisionOf (k q) (q .«variances_count») (q .variances) (drop (filteredFrom m i) work)) (distanceOf y (p q + i) centres) c) m) 784 now
+      → now′ ≡ fillAt 0 (λ c. sumOn (now ! c) (counted (k q) (q .«ar_blocks») (drop (filteredFrom m i) work) (c / (p q * p q))) (rowTable (p q) (precisionOf (k q) (q .«variances_count») (q .variances) (drop (filteredFrom m i) work)) (distanceOf (k q) (p q) distances) c) m) 784 now
       → now′ ≡ fillAt 0 (tableSum q y (rowsOf q work) ((i + 1) * windowsOf q)) 784 (replicate 784 zero⁺)
   tables-more e e′ =
       row-summed (λ c. inBlock q (rowsOf q work) (c / (p q * p q))) (λ c. productAt q y (rowsOf q work) (suc (c % (p q * p q) / p q)) (suc (c % (p q * p q) % p q))) 784
       (λ c. counted (k q) (q .«ar_blocks») (rowsOf q work i) (c / (p q * p q)))
-      (rowTable (p q) (precisionOf (k q) (q .«variances_count») (q .variances) (rowsOf q work i)) (distanceOf y (p q + i) centres))
+      (rowTable (p q) (precisionOf (k q) (q .«variances_count») (q .variances) (rowsOf q work i)) (distanceOf (k q) (p q) distances))
       (replicate 784 zero⁺) i (windowsOf q) (rw length-replicate (omega arith)) e (rw w at e′)
       (λ c a h. test-here q y (rowsOf q work) i a h (c / (p q * p q)))
-      (λ c a h. table-here q y (rowsOf q work) i a h d (rw w at ec) pos c)
+      (λ c a h. table-here q y (rowsOf q work) i a h positive d ed pos c)
 
   pub sides-more : now ≡ fillAt 0 (sideSum q y (rowsOf q work) (i * windowsOf q)) 112 (replicate 112 zero⁺)
-      → now′ ≡ fillAt 0 (λ c. sumOn (now ! c) (counted (k q) (q .«ar_blocks») (drop (filteredFrom m i) work) (c / p q)) (rowSide (p q) (precisionOf (k q) (q .«variances_count») (q .variances) (drop (filteredFrom m i) work)) (distanceOf y (p q + i) centres) c) m) 112 now
+      → now′ ≡ fillAt 0 (λ c. sumOn (now ! c) (counted (k q) (q .«ar_blocks») (drop (filteredFrom m i) work) (c / p q)) (rowSide (p q) (precisionOf (k q) (q .«variances_count») (q .variances) (drop (filteredFrom m i) work)) (distanceOf (k q) (p q) distances) c) m) 112 now
       → now′ ≡ fillAt 0 (sideSum q y (rowsOf q work) ((i + 1) * windowsOf q)) 112 (replicate 112 zero⁺)
   sides-more e e′ =
       row-summed (λ c. inBlock q (rowsOf q work) (c / p q)) (λ c. productAt q y (rowsOf q work) (suc (c % p q)) 0) 112
       (λ c. counted (k q) (q .«ar_blocks») (rowsOf q work i) (c / p q))
-      (rowSide (p q) (precisionOf (k q) (q .«variances_count») (q .variances) (rowsOf q work i)) (distanceOf y (p q + i) centres))
+      (rowSide (p q) (precisionOf (k q) (q .«variances_count») (q .variances) (rowsOf q work i)) (distanceOf (k q) (p q) distances))
       (replicate 112 zero⁺) i (windowsOf q) (rw length-replicate (omega arith)) e (rw w at e′)
       (λ c a h. test-here q y (rowsOf q work) i a h (c / p q))
-      (λ c a h. side-here q y (rowsOf q work) i a h d (rw w at ec) pos c)
+      (λ c a h. side-here q y (rowsOf q work) i a h positive d ed pos c)
 
 -- ---- the blocks
 

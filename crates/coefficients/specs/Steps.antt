@@ -8,18 +8,17 @@ use lib.Ieee.{Float, ne}
 use Rattle.number.specs.Number.{if_then_else_, _=?_, _⊕_, _⊖_, _⊗_, _⊘_, zero⁺}
 use Rattle.number.specs.Table.{_!_, fillAt}
 use Rattle.window.specs.Windows.{label, labels}
-use Rattle.params.specs.declared.MsarParams.{MsarParams}
-use Rattle.params.specs.Parameters.{k, p, μ, blockOf}
+use Rattle.params.specs.Parameters.{blockOf}
 use Rattle.ridge.specs.Ridge.{solveOrKeep}
 use Rattle.ridge.specs.declared.Update.{Update}
 
--- the mean of label s_l of window a, at place a·(p + 1) + l
-unfoldable pub centreAt : MsarParams → ℕ → Float
-centreAt q e = μ q (label (labels (k q) (suc (p q)) (e / suc (p q))) (e % suc (p q)))
+-- y[t-l] - μ[s] by lag and label, at place l·k + s
+unfoldable pub distanceBy : ℕ → List Float → ℕ → List Float → ℕ → Float
+distanceBy k y t means e = y ! (t - e / k) ⊖ means ! (e % k)
 
--- x_l at time t of the window whose centres stand from `base` on
-unfoldable pub distanceOf : List Float → ℕ → List Float → ℕ → ℕ → Float
-distanceOf y t centres base l = y ! (t - l) ⊖ centres ! (base + l)
+-- x_l of window a: what stands there for the label s_l
+unfoldable pub distanceOf : ℕ → ℕ → List Float → ℕ → ℕ → Float
+distanceOf k p distances a l = distances ! (l * k + label (labels k (suc p) a) l)
 
 -- what a window of weight w and distances x adds to place c of its block's table, and to place l of its right-hand side
 unfoldable pub tableTerm : ℕ → Float → (ℕ → Float) → ℕ → Float
@@ -47,10 +46,10 @@ precisionOf k count variances row a = row ! a ⊘ variances ! blockOf count (a %
 
 -- what it adds to cell c of the tables of all blocks, and of their sides
 unfoldable pub rowTable : ℕ → (ℕ → Float) → (ℕ → ℕ → Float) → ℕ → ℕ → Float
-rowTable p w x c a = tableTerm p (w a) (x (a * suc p)) (c % (p * p))
+rowTable p w x c a = tableTerm p (w a) (x a) (c % (p * p))
 
 unfoldable pub rowSide : ℕ → (ℕ → Float) → (ℕ → ℕ → Float) → ℕ → ℕ → Float
-rowSide p w x c a = sideTerm (w a) (x (a * suc p)) (c % p)
+rowSide p w x c a = sideTerm (w a) (x a) (c % p)
 
 -- block b of the tables and sides, solved
 unfoldable pub blockFrom : ℕ → List Float → List Float → List Float → ℕ → Update

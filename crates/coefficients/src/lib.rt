@@ -1,8 +1,8 @@
 // The new AR coefficients of an EM step. One walk over rows and windows makes the normal equations of all blocks: block
-// b's table stands from place b·p·p on, its right-hand side from b·p on. The means by window and lag do not change along
-// the series: they are a table, made once.
+// b's table stands from place b·p·p on, its right-hand side from b·p on. The distance of a reading to a mean depends on
+// its lag and label alone: the distances are made once a row, and each window reads those of its labels.
 ghost use mathlib.Core.Path.{_≡_};
-ghost use Prim.Native.Nat.{ℕ, suc, _+_, _*_, _/_, _^_, _<_, _≤_};
+ghost use Prim.Native.Nat.{suc, _+_, _*_, _/_, _^_, _<_, _≤_};
 ghost use lib.ListN.{length, drop, replicate};
 ghost use lib.Ieee.{ne};
 ghost use Rattle.number.specs.Number.{if_then_else_, _⊕_, _⊗_, _⊘_, zero⁺};
@@ -11,7 +11,7 @@ ghost use Rattle.window.specs.Shape.{Shape};
 ghost use Rattle.rows.specs.Memory.{filteredFrom};
 ghost use Rattle.params.specs.Parameters.{k, p, blockOf};
 ghost use Rattle.coefficients.specs.Coefficients.{blocksOf, newAr};
-ghost use Rattle.coefficients.specs.Steps.{centreAt, distanceOf, tableTerm, sideTerm, addedTo, sumOn, counted, precisionOf, rowTable, rowSide, blockFrom};
+ghost use Rattle.coefficients.specs.Steps.{distanceBy, distanceOf, tableTerm, sideTerm, addedTo, sumOn, counted, precisionOf, rowTable, rowSide, blockFrom};
 use params::MsarParams;
 use refusal::Check;
 use ridge::Update;
@@ -22,43 +22,17 @@ pub struct Blocks {
     pub ar: [f64; 112],
 }
 
-// ---- once a step
-
-// The mean of each label of each window: place a · (order + 1) + l is that of label s_l of window a.
-fn centres_of(q: MsarParams, m: usize) -> [f64; 2048]
-    requires { ⌜ Shape (k q) (p q) ⌝ }
-    requires { ⌜ m ≡ k q ^ suc (p q) ⌝ }
-    ensures { λ r. ⌜ r ≡ fillAt 0 (centreAt q) (m * suc (p q)) (replicate 2048 zero⁺) ⌝ }
-{
-    let k = q.means_count;
-    let order = q.order;
-    let powers = window::powers(k, order);
-    let width = order + 1;
-    let end = m * width;
-    let mut centres = [0.0; 2048];
-    for e in 0..end {
-        let s = window::label(e / width, e % width, k, order, &powers);
-        centres[e] = q.means[s];
-    }
-    centres
-}
-
 // ---- once a window
 
-// x_0, .., x_order at time t of the window whose centres stand from `base` on.
-fn distances(
-    y: &[f64],
-    t: usize,
-    centres: &[f64; 2048],
-    base: usize,
-    order: usize,
-    x: &mut [f64; 8],
-)
-    requires { ⌜ (order ≤ 7) × (order ≤ t) × (t < length (now y)) × (base + order < 2048) × (length (now x) ≡ 8) ⌝ }
-    ensures { λ _. ⌜ now (x .exit) ≡ fillAt 0 (distanceOf (now (y .entry)) t (now (centres .entry)) base) (order + 1) (now (x .entry)) ⌝ }
+// x_0, .., x_order of window a, by its labels in turn.
+fn distances_of(distances: &[f64; 128], a: usize, k: usize, order: usize, x: &mut [f64; 8])
+    requires { ⌜ (0 < k) × (k ≤ 16) × (order ≤ 7) × (length (now x) ≡ 8) ⌝ }
+    ensures { λ _. ⌜ now (x .exit) ≡ fillAt 0 (distanceOf k order (now (distances .entry)) a) (order + 1) (now (x .entry)) ⌝ }
 {
+    let mut rest = a;
     for l in 0..order + 1 {
-        x[l] = y[t - l] - centres[base + l];
+        x[l] = distances[l * k + rest % k];
+        rest = rest / k;
     }
 }
 
@@ -104,28 +78,27 @@ fn block_of(count: usize, s: usize) -> usize
     s
 }
 
-// A window of smoothed weight g and label s now; a weight equal to zero is skipped.
+// Window a, of smoothed weight g and label s now; a weight equal to zero is skipped.
 fn weigh_window(
     g: f64,
+    a: usize,
     s: usize,
-    base: usize,
-    y: &[f64],
-    t: usize,
-    centres: &[f64; 2048],
+    distances: &[f64; 128],
     variances: &[f64; 16],
+    k: usize,
     order: usize,
     blocks: usize,
     count: usize,
     tables: &mut [f64; 784],
     sides: &mut [f64; 112],
 )
-    requires { ⌜ (s < 16) × (base + order < 2048) × (order ≤ t) × (t < length (now y)) × (0 < order) × (order ≤ 7) × (length (now tables) ≡ 784) × (length (now sides) ≡ 112) ⌝ }
-    ensures tables { λ _. ⌜ now (tables .exit) ≡ (if ne g zero⁺ then addedTo (blockOf blocks s) (order * order) (tableTerm order (g ⊘ now (variances .entry) ! blockOf count s) (distanceOf (now (y .entry)) t (now (centres .entry)) base)) (now (tables .entry)) else now (tables .entry)) ⌝ }
-    ensures sides { λ _. ⌜ now (sides .exit) ≡ (if ne g zero⁺ then addedTo (blockOf blocks s) order (sideTerm (g ⊘ now (variances .entry) ! blockOf count s) (distanceOf (now (y .entry)) t (now (centres .entry)) base)) (now (sides .entry)) else now (sides .entry)) ⌝ }
+    requires { ⌜ (s < 16) × (0 < k) × (k ≤ 16) × (0 < order) × (order ≤ 7) × (length (now tables) ≡ 784) × (length (now sides) ≡ 112) ⌝ }
+    ensures tables { λ _. ⌜ now (tables .exit) ≡ (if ne g zero⁺ then addedTo (blockOf blocks s) (order * order) (tableTerm order (g ⊘ now (variances .entry) ! blockOf count s) (distanceOf k order (now (distances .entry)) a)) (now (tables .entry)) else now (tables .entry)) ⌝ }
+    ensures sides { λ _. ⌜ now (sides .exit) ≡ (if ne g zero⁺ then addedTo (blockOf blocks s) order (sideTerm (g ⊘ now (variances .entry) ! blockOf count s) (distanceOf k order (now (distances .entry)) a)) (now (sides .entry)) else now (sides .entry)) ⌝ }
 {
     if g != 0.0 {
         let mut x = [0.0; 8];
-        distances(y, t, centres, base, order, &mut x);
+        distances_of(distances, a, k, order, &mut x);
         let own = block_of(count, s);
         let b = block_of(blocks, s);
         add_window(tables, sides, b, order, g / variances[own], &x);
@@ -134,13 +107,29 @@ fn weigh_window(
 
 // ---- once a row
 
-// A row of m weights, which stands from `from` on, at time t.
+// The distances by lag and label at time t: place l·k + s is that of label s at lag l.
+fn distances_at(
+    y: &[f64],
+    t: usize,
+    means: &[f64; 16],
+    k: usize,
+    order: usize,
+    distances: &mut [f64; 128],
+)
+    requires { ⌜ (0 < k) × (k ≤ 16) × (order ≤ 7) × (order ≤ t) × (t < length (now y)) × (length (now distances) ≡ 128) ⌝ }
+    ensures { λ _. ⌜ now (distances .exit) ≡ fillAt 0 (distanceBy k (now (y .entry)) t (now (means .entry))) (suc order * k) (now (distances .entry)) ⌝ }
+{
+    let end = (order + 1) * k;
+    for e in 0..end {
+        distances[e] = y[t - e / k] - means[e % k];
+    }
+}
+
+// A row of m weights, which stands from `from` on.
 fn add_row(
     work: &[f64],
     from: usize,
-    y: &[f64],
-    t: usize,
-    centres: &[f64; 2048],
+    distances: &[f64; 128],
     variances: &[f64; 16],
     k: usize,
     order: usize,
@@ -150,22 +139,20 @@ fn add_row(
     tables: &mut [f64; 784],
     sides: &mut [f64; 112],
 )
-    requires { ⌜ (0 < k) × (k ≤ 16) × (m * suc order ≤ 2048) × (from + m ≤ length (now work)) ⌝ }
-    requires { ⌜ (order ≤ t) × (t < length (now y)) × (0 < order) × (order ≤ 7) × (length (now tables) ≡ 784) × (length (now sides) ≡ 112) ⌝ }
-    ensures tables { λ _. ⌜ now (tables .exit) ≡ fillAt 0 (λ c. sumOn (now (tables .entry) ! c) (counted k blocks (drop from (now (work .entry))) (c / (order * order))) (rowTable order (precisionOf k count (now (variances .entry)) (drop from (now (work .entry)))) (distanceOf (now (y .entry)) t (now (centres .entry))) c) m) 784 (now (tables .entry)) ⌝ }
-    ensures sides { λ _. ⌜ now (sides .exit) ≡ fillAt 0 (λ c. sumOn (now (sides .entry) ! c) (counted k blocks (drop from (now (work .entry))) (c / order)) (rowSide order (precisionOf k count (now (variances .entry)) (drop from (now (work .entry)))) (distanceOf (now (y .entry)) t (now (centres .entry))) c) m) 112 (now (sides .entry)) ⌝ }
+    requires { ⌜ (0 < k) × (k ≤ 16) × (from + m ≤ length (now work)) ⌝ }
+    requires { ⌜ (0 < order) × (order ≤ 7) × (length (now tables) ≡ 784) × (length (now sides) ≡ 112) ⌝ }
+    ensures tables { λ _. ⌜ now (tables .exit) ≡ fillAt 0 (λ c. sumOn (now (tables .entry) ! c) (counted k blocks (drop from (now (work .entry))) (c / (order * order))) (rowTable order (precisionOf k count (now (variances .entry)) (drop from (now (work .entry)))) (distanceOf k order (now (distances .entry))) c) m) 784 (now (tables .entry)) ⌝ }
+    ensures sides { λ _. ⌜ now (sides .exit) ≡ fillAt 0 (λ c. sumOn (now (sides .entry) ! c) (counted k blocks (drop from (now (work .entry))) (c / order)) (rowSide order (precisionOf k count (now (variances .entry)) (drop from (now (work .entry)))) (distanceOf k order (now (distances .entry))) c) m) 112 (now (sides .entry)) ⌝ }
 {
     let mut s = 0;
-    let mut base = 0;
     for a in 0..m {
         weigh_window(
             work[from + a],
+            a,
             s,
-            base,
-            y,
-            t,
-            centres,
+            distances,
             variances,
+            k,
             order,
             blocks,
             count,
@@ -173,7 +160,6 @@ fn add_row(
             sides,
         );
         s = window::next_label(s, k);
-        base = base + order + 1;
     }
 }
 
@@ -269,16 +255,15 @@ pub fn new_ar(q: MsarParams, y: &[f64], power: usize, n: usize, work: &[f64]) ->
     let k = q.means_count;
     let order = q.order;
     let m = power * k;
-    let centres = centres_of(q, m);
+    let mut distances = [0.0; 128];
     let mut tables = [0.0; 784];
     let mut sides = [0.0; 112];
     for i in 0..n {
+        distances_at(y, order + i, &q.means, k, order, &mut distances);
         add_row(
             work,
             2 * i * m + m,
-            y,
-            order + i,
-            &centres,
+            &distances,
             &q.variances,
             k,
             order,

@@ -1,5 +1,4 @@
 use borrow.Author.Tests.{eq-eqb, ne-eqb}
-use Prim.Native.Nat.{_-_}
 use Rattle.coefficients.proofs.block_of.Statement.{statement}
 use Rattle.coefficients.proofs.block_of.Tie as tie
 use Rattle.coefficients.proofs.block_of.Reads as reads

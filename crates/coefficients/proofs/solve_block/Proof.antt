@@ -1,6 +1,5 @@
 use Rattle.coefficients.proofs.Parts.{side-fits, table-fits, table-small}
 use Rattle.coefficients.specs.Steps.{blockFrom}
-use Prim.Native.Nat.{_-_}
 use native.Mathlib.Omega.{arith}
 use borrow.Author.Needs.{needs}
 use Rattle.coefficients.proofs.solve_block.Statement.{statement}
