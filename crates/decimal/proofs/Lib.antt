@@ -12,3 +12,11 @@ pub mod Extremes
 pub mod Scaled
 -- the loop that reads a text
 pub mod Scan
+-- the weight of the first digit
+pub mod First
+-- the 17 digits
+pub mod Seventeen
+-- bytes, one behind the other
+pub mod Bytes
+-- from a pattern to its text
+pub mod Magnitudes

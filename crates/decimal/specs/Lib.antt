@@ -2,3 +2,5 @@
 pub mod Text
 -- what the functions hand to each other
 pub mod Room
+-- a number as text of 17 digits
+pub mod Decimals

@@ -1,12 +1,14 @@
 -- What the functions of this crate hand to each other. No other crate's contract cites it.
-use Prim.Native.Nat.{ℕ, _+_, _*_, _/_, _%_, _≤_, _<_, _^_}
+use Prim.Native.Nat.{ℕ, _+_, _-_, _*_, _/_, _%_, _≤_, _<_, _^_}
 use mathlib.Core.Path.{_≡_}
 use mathlib.Core.Bool.{Bool, not, cond}
 use lib.Dec.{eqb}
-use Rattle.number.specs.Number.{if_then_else_, _=?_}
+use mathlib.Core.List.{List, [], _∷_}
+use Rattle.number.specs.Number.{if_then_else_, _<?_, _=?_}
 use Rattle.decimal.specs.declared.Place.{Place}
 use Rattle.decimal.specs.declared.Place.the-variants.{Start, Sign, Zero, Whole, Point, Fraction, Mark, MarkSign, Exponent, I, In, Inf, N, Na, Nan, Hex}
 use Rattle.decimal.specs.declared.State.{State}
+use Rattle.decimal.specs.Decimals.{unitsText}
 
 -- before any digit there is zero, and n hexadecimal digits are that many
 abbrev pub Held : Place → ℕ → Type 0
@@ -50,3 +52,16 @@ pub record Normal (q k : ℕ) : Type 0 where
 -- the sign's part of a pattern
 abbrev pub signPart : Bool → ℕ
 signPart s = cond s (2 ^ 63) 0
+
+-- of a number of z binary digits, in units: its tens, or one less
+abbrev pub guessOf : ℕ → ℕ
+guessOf z = (z * 30103 + 39000) / 100000
+
+-- the units of the magnitude's pattern b
+unfoldable pub unitsOf : ℕ → ℕ
+unitsOf b = if b <? 2 ^ 52 then b else (2 ^ 52 + b % 2 ^ 52) * 2 ^ (b / 2 ^ 52 - 1)
+
+-- the text of the magnitude's pattern b, infinity's included
+unfoldable pub magnitudeText : ℕ → List ℕ
+unfolding unitsOf unitsText
+magnitudeText b = if b <? 0x7ff0_0000_0000_0000 then unitsText (unitsOf b) else 105 ∷ 110 ∷ 102 ∷ []

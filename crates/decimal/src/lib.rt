@@ -1,10 +1,12 @@
-// Decimal numbers: text to the nearest f64.
+// Decimal numbers: text to the nearest f64, and an f64 to the nearest decimal of 17 digits.
 ghost use mathlib.Core.Path.{_≡_};
 ghost use Rattle.decimal.specs.Text.{readOf};
+ghost use Rattle.decimal.specs.Decimals.{writtenOf};
 
 mod grammar;
 mod reading;
 mod ten;
+mod writing;
 
 // Where in a number the reader stands: what came last.
 pub enum Place {
@@ -48,6 +50,18 @@ pub enum Parsed {
     Wrong(usize),
 }
 
+// digits * 10 ^ (tens - 340)
+pub struct Decimal {
+    pub digits: u64,
+    pub tens: usize,
+}
+
+// The first `length` bytes are the text.
+pub struct Written {
+    pub bytes: [u8; 32],
+    pub length: usize,
+}
+
 // The number that the whole text is.
 pub fn read(text: &[u8]) -> Parsed
     ensures { λ r. ⌜ r ≡ readOf (now (text .entry)) ⌝ }
@@ -62,4 +76,11 @@ pub fn read(text: &[u8]) -> Parsed
         i += 1;
     }
     reading::finish(s, i)
+}
+
+// The text of a number: 17 digits, or `inf`, `-inf`, `nan`.
+pub fn write(x: f64) -> Written
+    ensures { λ r. ⌜ r ≡ writtenOf x ⌝ }
+{
+    writing::text_of(number::pattern(x))
 }
