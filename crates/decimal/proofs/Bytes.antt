@@ -7,9 +7,10 @@ use native.Mathlib.Omega.{arith}
 use lib.ListN.{length, replicate, set, length-append}
 use lib.Seq.{set-append-seam, append-snoc}
 use borrow.Author.Tests.{lt-ltb, le-ltb}
+use lib.Ieee.{Float}
 use Rattle.decimal.specs.declared.Decimal.{Decimal}
 use Rattle.decimal.specs.declared.Written.{Written}
-use Rattle.decimal.specs.Decimals.{written, digitsText, exponentText, decimalText}
+use Rattle.decimal.specs.Decimals.{written, digitsText, exponentText, decimalText, textOf, writtenOf}
 
 pub written-length : (t : List ℕ) (w : Written) → w ≡ written t → w .length ≡ length t
 unfolding written
@@ -127,3 +128,12 @@ decimal-joined t d = go t (digitsText 1 (d .digits / 10 ^ 16)) (digitsText 16 (d
   where
     go : (t a b c : List ℕ) → (((t ++ a) ++ 46 ∷ []) ++ b) ++ c ≡ t ++ (a ++ 46 ∷ b ++ c)
     go t a b c = simp append-assoc
+
+-- ---- for whoever writes the text on: its length is within the bytes
+
+pub written-part : (x : Float) (w : Written) → w ≡ writtenOf x → w .length ≤ length (w .bytes)
+unfolding writtenOf written
+written-part x w e = subst (λ (z : Written). z .length ≤ length (z .bytes)) (sym e) (within (textOf x) (replicate (32 - length (textOf x)) 0))
+  where
+    within : (s t : List ℕ) → length s ≤ length (s ++ t)
+    within s t = omega (arith, length-append s t)
