@@ -20,3 +20,9 @@ pub mod Seventeen
 pub mod Bytes
 -- from a pattern to its text
 pub mod Magnitudes
+-- a decimal of 17 digits rounds back
+pub mod Back
+-- the text read again
+pub mod Again
+-- every number that is written is read back
+pub mod RoundTrip
