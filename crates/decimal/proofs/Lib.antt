@@ -26,3 +26,5 @@ pub mod Back
 pub mod Again
 -- every number that is written is read back
 pub mod RoundTrip
+-- the definitions on known values
+pub mod Values
