@@ -28,3 +28,5 @@ pub mod Again
 pub mod RoundTrip
 -- the definitions on known values
 pub mod Values
+-- no decimal with the same power of ten is nearer
+pub mod Best
