@@ -1,7 +1,6 @@
 // What was read, as a number: the exact fraction, rounded once.
 ghost use mathlib.Core.Path.{_≡_};
-ghost use mathlib.Core.Bool.{Bool};
-ghost use Prim.Native.Nat.{ℕ, _+_, _-_, _*_, _≤_, _<_, _^_};
+ghost use Prim.Native.Nat.{ℕ, _+_, _-_, _*_, _<_, _^_};
 ghost use lib.Ieee.{binary64, round, units};
 ghost use Rattle.number.specs.Number.{float};
 ghost use Rattle.limbs.specs.Limbs.{value, Limbs};

@@ -1,7 +1,6 @@
 // The decimal of 17 digits nearest to a number, and its text.
 ghost use mathlib.Core.Path.{_≡_};
 ghost use mathlib.Core.List.{List, _∷_, [], _++_};
-ghost use mathlib.Core.Bool.{Bool};
 ghost use Prim.Native.Nat.{ℕ, _+_, _-_, _*_, _/_, _%_, _≤_, _<_, _^_};
 ghost use lib.Dec.{T};
 ghost use lib.Ieee.{Float, binary64, fits, toBits};
