@@ -40,7 +40,7 @@ nearest-error q r u n Ordering·eq c l e = omega (arith, mul-le-mul-right u (tie
     tie q = omega arith
 nearest-error q r u n Ordering·gt c l e = omega arith
 
-closest-error : (n u : ℕ) → 0 < u → Near u (closest n u * u * 2) (n * 2)
+pub closest-error : (n u : ℕ) → 0 < u → Near u (closest n u * u * 2) (n * 2)
 closest-error n u U = nearest-error (n / u) (n % u) u n (compare (n % u * 2) u) (compared (n % u * 2) u) (mod-lt n U) (div-add-mod' n u)
 
 -- ---- to p digits
