@@ -1,10 +1,10 @@
--- The tables that are made once a call and once a row are what the walk reads; a row further, and the equations at the end. Assumes nothing.
+-- What is made once a call and once a row is what the walk reads; a row further, and the equations at the end. Assumes nothing.
 use Prim.Native.Nat.{ℕ, _+_, _*_, _/_, _%_, _^_, _<_}
 use mathlib.Core.Path.{_≡_, refl, sym, ap, subst, _∙_}
 use mathlib.Core.List.{List}
 use native.Mathlib.Numerals.{add-one}
 use native.Mathlib.Nat.{pow-suc, mod-lt, le-refl, suc-mul}
-use lib.Arith.{digits-lt, digits-div, digits-mod}
+use lib.Arith.{digits-div, digits-mod}
 use lib.ListN.{drop}
 use lib.Ieee.{Float}
 use Rattle.number.specs.Table.{_!_, fillAt}
@@ -19,8 +19,8 @@ use Rattle.density.specs.Steps.{phisOf}
 use Rattle.ridge.specs.Ridge.{solveOrKeep}
 use Rattle.ridge.specs.declared.Update.{Update}
 use Rattle.smoothed.specs.Smoothed.{windowsOf, places, labelAt, timeAt}
-use Rattle.means.specs.Means.{dTo, α, meansCell, meansSide, newMeans}
-use Rattle.means.specs.Steps.{sensitivityAt, lessLagsAt, cellTo, sideTo, Summed, Lent}
+use Rattle.means.specs.Means.{dTo, meansCell, meansSide, newMeans}
+use Rattle.means.specs.Steps.{lessLagsAt, cellTo, sideTo, Summed, Lent}
 use Rattle.means.proofs.Lags.{label-now, sensitivity-is, less-lags-is}
 
 -- the windows are as many as the code says
@@ -28,13 +28,6 @@ pub windows : (q : MsarParams) {power : ℕ} → power ≡ k q ^ p q → windows
 windows q e = rw (e, pow-suc)
 
 module _ (q : MsarParams) (pos : 0 < k q) (m : ℕ) (w : windowsOf q ≡ m) where
-  alphas-hold : (l : List Float) {phis alphas : List Float} → phis ≡ phisOf q → alphas ≡ fillAt 0 (sensitivityAt (k q) (p q) phis) (m * k q) l
-      → (a r : ℕ) → a < m → r < k q → alphas ! (a * k q + r) ≡ α q a r
-  unfolding sensitivityAt
-  alphas-hold l {phis} o e a r h j =
-      fill-at _ (m * k q) l e (a * k q + r) (digits-lt h j)
-      ∙ rw (digits-div a j, digits-mod a j, o) (sensitivity-is q pos a r (p q) (rw w h) (le-refl (p q)))
-
   ds-hold : (y l : List Float) {phis ds : List Float} (i : ℕ) {t : Time} → phis ≡ phisOf q → t ≡ timeOf (p q) (record { 0 = i })
       → ds ≡ fillAt 0 (lessLagsAt (k q) (p q) phis y (t .0)) (k q) l → (a : ℕ) → a < m → ds ! (a % k q) ≡ dTo q y (i * m + a) (p q)
   unfolding lessLagsAt
@@ -45,16 +38,15 @@ module _ (q : MsarParams) (pos : 0 < k q) (m : ℕ) (w : windowsOf q ≡ m) wher
       let now : a % k q ≡ labelAt q (i * m + a) 0 = ap (λ (x : ℕ). x % k q) (sym window) ∙ sym (label-now q pos (i * m + a)) in
       fill-at _ (k q) l e (a % k q) (mod-lt a pos) ∙ rw (o, time, now) (less-lags-is q pos y (i * m + a) (p q) (le-refl (p q)))
 
-  pub lent-for : (y work : List Float) (i : ℕ) (la lv ld : List Float) {phis alphas variances ds : List Float} {t : Time} → phis ≡ phisOf q
-      → alphas ≡ fillAt 0 (sensitivityAt (k q) (p q) phis) (m * k q) la
+  pub lent-for : (y work : List Float) (i : ℕ) (lv ld : List Float) {phis variances ds : List Float} {t : Time} → phis ≡ phisOf q
       → variances ≡ fillAt 0 (variance q) (k q) lv
       → t ≡ timeOf (p q) (record { 0 = i })
       → ds ≡ fillAt 0 (lessLagsAt (k q) (p q) phis y (t .0)) (k q) ld
-      → Lent q y (λ i. drop (filteredFrom (windowsOf q) i) work) i (k q) m alphas variances ds work (2 * i * m + m)
-  lent-for y work i la lv ld o e v z d = record {
+      → Lent q y (λ i. drop (filteredFrom (windowsOf q) i) work) i (k q) (p q) m phis variances ds work (2 * i * m + m)
+  lent-for y work i lv ld o v z d = record {
     count-is = refl;
     windows-are = w;
-    alphas-are = alphas-hold la o e;
+    alphas-are = λ a r h j. rw o (sensitivity-is q pos a r (p q) (rw w h) (le-refl (p q)));
     variances-are = λ s j. fill-at _ (k q) lv v s j;
     ds-are = ds-hold y ld i o z d;
     weights-are = λ a h. rw w (place work (2 * i * m + m) a);

@@ -16,8 +16,8 @@ use Rattle.params.specs.declared.MsarParams.{MsarParams}
 use Rattle.params.specs.Parameters.{k, p}
 use Rattle.smoothed.specs.Smoothed.{windowsOf, labelAt, weightAt, precision}
 use Rattle.means.specs.Means.{dTo, α, sensitive}
-use Rattle.means.specs.Steps.{cellAdded, sideAdded, cellSeen, sideSeen, cellTo, sideTo, Summed, Lent}
-use Rattle.means.proofs.Lags.{label-now, α-window}
+use Rattle.means.specs.Steps.{sensitivitiesOf, cellAdded, sideAdded, cellSeen, sideSeen, cellTo, sideTo, Summed, Lent}
+use Rattle.means.proofs.Lags.{label-now, α-window, sensitivity-at}
 use Rattle.means.proofs.Added.{fillAt-own}
 
 -- ---- a list filled, and its filled part again
@@ -57,8 +57,8 @@ module _ (q : MsarParams) (rows : ℕ → List Float) where
 
 -- ---- place e, window a of row i
 
-module _ {q : MsarParams} {y : List Float} {rows : ℕ → List Float} {i count m : ℕ} {alphas variances ds work : List Float} {at : ℕ}
-    (lent : Lent q y rows i count m alphas variances ds work at) (pos : 0 < count) (a : ℕ) (h : a < m) where
+module _ {q : MsarParams} {y : List Float} {rows : ℕ → List Float} {i count order m : ℕ} {phis variances ds work : List Float} {at : ℕ}
+    (lent : Lent q y rows i count order m phis variances ds work at) (pos : 0 < count) (a : ℕ) (h : a < m) where
   place-row : (i * m + a) / windowsOf q ≡ i
   place-row = rw (lent .windows-are) (digits-div i h)
 
@@ -74,12 +74,12 @@ module _ {q : MsarParams} {y : List Float} {rows : ℕ → List Float} {i count 
   precision-is : {s : ℕ} → s ≡ a % count → precision q rows (i * m + a) ≡ work ! (at + a) ⊘ variances ! s
   precision-is e = rw (weight-is, label-is, e) (ap (λ (v : Float). work ! (at + a) ⊘ v) (sym (lent .variances-are (a % count) (mod-lt a pos))))
 
-  α-is : (r : ℕ) → r < count → α q (i * m + a) r ≡ alphas ! (a * count + r)
+  α-is : (r : ℕ) → r < count → α q (i * m + a) r ≡ sensitivitiesOf count order phis a ! r
   α-is r j =
       let w : a < windowsOf q = rw (lent .windows-are) h in
-      α-window q (i * m + a) a r (p q) (place-window ∙ sym (mod-eq-of-lt w)) ∙ sym (lent .alphas-are a r h j)
+      α-window q (i * m + a) a r (p q) (place-window ∙ sym (mod-eq-of-lt w)) ∙ sym (sensitivity-at count order phis a r j ∙ lent .alphas-are a r h j)
 
-  sensitive-is : (r : ℕ) → r < count → sensitive q rows r (i * m + a) ≡ (ne (work ! (at + a)) zero⁺ && ne (alphas ! (a * count + r)) zero⁺)
+  sensitive-is : (r : ℕ) → r < count → sensitive q rows r (i * m + a) ≡ (ne (work ! (at + a)) zero⁺ && ne (sensitivitiesOf count order phis a ! r) zero⁺)
   unfolding sensitive
   sensitive-is r j = rw (weight-is, α-is r j)
 
@@ -91,26 +91,26 @@ module _ {q : MsarParams} {y : List Float} {rows : ℕ → List Float} {i count 
 
   module _ {s : ℕ} (e : s ≡ a % count) where
     cell-next : (mat : List Float) (x : ℕ) → x / count < count → mat ! x ≡ cellTo q rows (i * m + a) x
-        → cellSeen alphas (a * count) count (variances ! s) (work ! (at + a)) mat x ≡ cellTo q rows (i * m + (a + 1)) x
+        → cellSeen (sensitivitiesOf count order phis a) count (variances ! s) (work ! (at + a)) mat x ≡ cellTo q rows (i * m + (a + 1)) x
     unfolding cellSeen cellAdded
     cell-next mat x j b =
         rw (next, cell-suc q rows (i * m + a) x (lent .count-is), sensitive-is _ j, precision-is e, α-is _ j, α-is _ (mod-lt x pos), ← b)
-        (both (ne (work ! (at + a)) zero⁺) (ne (alphas ! (a * count + x / count)) zero⁺)
-        (mat ! x ⊕ work ! (at + a) ⊘ variances ! s ⊗ alphas ! (a * count + x / count) ⊗ alphas ! (a * count + x % count))
+        (both (ne (work ! (at + a)) zero⁺) (ne (sensitivitiesOf count order phis a ! (x / count)) zero⁺)
+        (mat ! x ⊕ work ! (at + a) ⊘ variances ! s ⊗ sensitivitiesOf count order phis a ! (x / count) ⊗ sensitivitiesOf count order phis a ! (x % count))
         (mat ! x))
 
     side-next : (rhs : List Float) (r : ℕ) → r < count → rhs ! r ≡ sideTo q rows y (i * m + a) r
-        → sideSeen alphas (a * count) count (variances ! s) (work ! (at + a)) (ds ! s) rhs r ≡ sideTo q rows y (i * m + (a + 1)) r
+        → sideSeen (sensitivitiesOf count order phis a) count (variances ! s) (work ! (at + a)) (ds ! s) rhs r ≡ sideTo q rows y (i * m + (a + 1)) r
     unfolding sideSeen sideAdded
     side-next rhs r j b =
         rw (next, side-suc q rows y (i * m + a) r, sensitive-is r j, precision-is e, α-is r j, d-is e, ← b, less-is)
-        (both (ne (work ! (at + a)) zero⁺) (ne (alphas ! (a * count + r)) zero⁺)
-        (rhs ! r ⊕ neg (work ! (at + a) ⊘ variances ! s ⊗ ds ! s ⊗ alphas ! (a * count + r)))
+        (both (ne (work ! (at + a)) zero⁺) (ne (sensitivitiesOf count order phis a ! r) zero⁺)
+        (rhs ! r ⊕ neg (work ! (at + a) ⊘ variances ! s ⊗ ds ! s ⊗ sensitivitiesOf count order phis a ! r))
         (rhs ! r))
 
     pub window-more : {mat mat′ rhs rhs′ : List Float} → Summed q y rows (i * m + a) mat rhs
-        → mat′ ≡ fillAt 0 (cellSeen alphas (a * count) count (variances ! s) (work ! (at + a)) mat) (count * count) mat
-        → rhs′ ≡ fillAt 0 (sideSeen alphas (a * count) count (variances ! s) (work ! (at + a)) (ds ! s) rhs) count rhs
+        → mat′ ≡ fillAt 0 (cellSeen (sensitivitiesOf count order phis a) count (variances ! s) (work ! (at + a)) mat) (count * count) mat
+        → rhs′ ≡ fillAt 0 (sideSeen (sensitivitiesOf count order phis a) count (variances ! s) (work ! (at + a)) (ds ! s) rhs) count rhs
         → Summed q y rows (i * m + (a + 1)) mat′ rhs′
     window-more {mat} {mat′} {rhs} {rhs′} w c d =
         let cells : mat ≡ fillAt 0 (cellTo q rows (i * m + a)) (count * count) (replicate 256 zero⁺) = subst (λ (c : ℕ). mat ≡ fillAt 0 (cellTo q rows (i * m + a)) (c * c) (replicate 256 zero⁺)) (lent .count-is) (w .cells) in

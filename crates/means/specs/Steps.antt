@@ -1,4 +1,4 @@
--- What the steps of the code give: tables made once a call or a row, and sums over the first places. The proofs show that they are the definition's.
+-- What the steps of the code give: rows made once a call, a row or a window, and sums over the first places. The proofs show that they are the definition's.
 use Prim.Native.Nat.{ℕ, zero, suc, _+_, _-_, _*_, _/_, _%_, _^_, _<_}
 use mathlib.Core.Path.{_≡_}
 use mathlib.Core.List.{List}
@@ -20,9 +20,9 @@ sensitivityTo k phis a r zero = if a % k =? r then neg one else zero⁺
 sensitivityTo k phis a r (suc l) =
     if a / k ^ suc l % k =? r then sensitivityTo k phis a r l ⊕ phis ! (l * k + a % k) else sensitivityTo k phis a r l
 
--- window e / k and label e % k
-unfoldable pub sensitivityAt : ℕ → ℕ → List Float → ℕ → Float
-sensitivityAt k order phis e = sensitivityTo k phis (e / k) (e % k) order
+-- the same for each label, with all its lags
+unfoldable pub sensitivitiesOf : ℕ → ℕ → List Float → ℕ → List Float
+sensitivitiesOf k order phis a = fillAt 0 (λ r. sensitivityTo k phis a r order) k (replicate 16 zero⁺)
 
 -- d for the reading at time t under label s, with its first l lags
 unfoldable pub lessLagsTo : ℕ → List Float → List Float → ℕ → ℕ → ℕ → Float
@@ -33,25 +33,25 @@ lessLagsTo k phis y t s (suc l) = lessLagsTo k phis y t s l ⊖ phis ! (l * k + 
 unfoldable pub lessLagsAt : ℕ → ℕ → List Float → List Float → ℕ → ℕ → Float
 lessLagsAt k order phis y t s = lessLagsTo k phis y t s order
 
--- ---- one window added, whose sensitivities stand from `from` on
+-- ---- one window added, whose sensitivities are `row`
 
-module _ (alphas : List Float) (from : ℕ) (k : ℕ) (gw : Float) where
+module _ (row : List Float) (k : ℕ) (gw : Float) where
   -- place x of the table, row x / k and column x % k
   unfoldable pub cellAdded : List Float → ℕ → Float
   cellAdded mat x =
-      if ne (alphas ! (from + x / k)) zero⁺
-      then mat ! x ⊕ gw ⊗ alphas ! (from + x / k) ⊗ alphas ! (from + x % k)
+      if ne (row ! (x / k)) zero⁺
+      then mat ! x ⊕ gw ⊗ row ! (x / k) ⊗ row ! (x % k)
       else (mat ! x)
 
   unfoldable pub sideAdded : Float → List Float → ℕ → Float
-  sideAdded d rhs r = if ne (alphas ! (from + r)) zero⁺ then rhs ! r ⊖ gw ⊗ d ⊗ alphas ! (from + r) else (rhs ! r)
+  sideAdded d rhs r = if ne (row ! r) zero⁺ then rhs ! r ⊖ gw ⊗ d ⊗ row ! r else (rhs ! r)
 
 -- the same for a window of weight g, which is skipped where g is zero
-unfoldable pub cellSeen : List Float → ℕ → ℕ → Float → Float → List Float → ℕ → Float
-cellSeen alphas from k v g mat x = if ne g zero⁺ then cellAdded alphas from k (g ⊘ v) mat x else (mat ! x)
+unfoldable pub cellSeen : List Float → ℕ → Float → Float → List Float → ℕ → Float
+cellSeen row k v g mat x = if ne g zero⁺ then cellAdded row k (g ⊘ v) mat x else (mat ! x)
 
-unfoldable pub sideSeen : List Float → ℕ → ℕ → Float → Float → Float → List Float → ℕ → Float
-sideSeen alphas from k v g d rhs r = if ne g zero⁺ then sideAdded alphas from k (g ⊘ v) d rhs r else (rhs ! r)
+unfoldable pub sideSeen : List Float → ℕ → Float → Float → Float → List Float → ℕ → Float
+sideSeen row k v g d rhs r = if ne g zero⁺ then sideAdded row k (g ⊘ v) d rhs r else (rhs ! r)
 
 -- ---- the sums over the first e places
 
@@ -68,10 +68,10 @@ pub record Summed (q : MsarParams) (y : List Float) (rows : ℕ → List Float) 
   pub sides : rhs ≡ fillAt 0 (sideTo q rows y e) (k q) (replicate 16 zero⁺)
 
 -- what is lent for row i, whose weights stand from `at` on in work memory
-pub record Lent (q : MsarParams) (y : List Float) (rows : ℕ → List Float) (i : ℕ) (count m : ℕ) (alphas variances ds work : List Float) (at : ℕ) : Type 0 where
+pub record Lent (q : MsarParams) (y : List Float) (rows : ℕ → List Float) (i : ℕ) (count order m : ℕ) (phis variances ds work : List Float) (at : ℕ) : Type 0 where
   pub count-is : k q ≡ count
   pub windows-are : windowsOf q ≡ m
-  pub alphas-are : (a r : ℕ) → a < m → r < count → alphas ! (a * count + r) ≡ α q a r
+  pub alphas-are : (a r : ℕ) → a < m → r < count → sensitivityTo count phis a r order ≡ α q a r
   pub variances-are : (s : ℕ) → s < count → variances ! s ≡ variance q s
   pub ds-are : (a : ℕ) → a < m → ds ! (a % count) ≡ dTo q y (i * m + a) (p q)
   pub weights-are : (a : ℕ) → a < m → rows i ! a ≡ work ! (at + a)

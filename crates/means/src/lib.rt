@@ -1,6 +1,6 @@
-// The new means: normal equations summed over the smoothed windows, and solved with a ridge. Sensitivities and variances
-// do not change along the series: they are tables, made once a call. What is left of a reading depends on the label now
-// alone: it is made once a row.
+// The new means: normal equations summed over the smoothed windows, and solved with a ridge. The variances do not change
+// along the series: they are made once a call. What is left of a reading depends on the label now alone: it is made once
+// a row. The sensitivities are made once a window: a table of them all would take 32 KiB of stack.
 ghost use mathlib.Core.Path.{_≡_};
 ghost use mathlib.Core.List.{List};
 ghost use Prim.Native.Nat.{ℕ, _+_, _*_, _%_, _^_, _<_, _≤_};
@@ -14,7 +14,7 @@ ghost use Rattle.params.specs.declared.MsarParams.{MsarParams};
 ghost use Rattle.params.specs.Parameters.{k, p, variance};
 ghost use Rattle.smoothed.specs.Smoothed.{windowsOf, places};
 ghost use Rattle.means.specs.Means.{newMeans};
-ghost use Rattle.means.specs.Steps.{sensitivityTo, sensitivityAt, lessLagsTo, lessLagsAt, cellAdded, sideAdded, cellSeen, sideSeen, Summed, Lent};
+ghost use Rattle.means.specs.Steps.{sensitivitiesOf, lessLagsTo, lessLagsAt, cellAdded, sideAdded, cellSeen, sideSeen, Summed, Lent};
 use params::MsarParams;
 use ridge::Update;
 use window::Row;
@@ -44,44 +44,6 @@ fn variances(q: MsarParams) -> [f64; 16]
         row[s] = variance(q, s);
     }
     row
-}
-
-// Without lags: a residual moves against the mean of its label now.
-fn sensitivity_now(s: usize, r: usize) -> f64
-    ensures { λ x. ⌜ ((k a : ℕ) (phis : List Float) → s ≡ a % k → x ≡ sensitivityTo k phis a r 0) ⌝ }
-{
-    if s == r {
-        return -1.0;
-    }
-    0.0
-}
-
-// How the residual under window a moves with the mean of label r.
-fn sensitivity(phis: &[f64; 112], a: usize, r: usize, k: usize, order: usize) -> f64
-    requires { ⌜ (0 < k) × (k ≤ 16) × (order ≤ 7) ⌝ }
-    ensures { λ x. ⌜ x ≡ sensitivityTo k (now (phis .entry)) a r order ⌝ }
-{
-    let s = a % k;
-    let mut x = sensitivity_now(s, r);
-    let mut rest = a / k;
-    for l in 0..order {
-        if rest % k == r {
-            x = x + phis[l * k + s];
-        }
-        rest = rest / k;
-    }
-    x
-}
-
-// The sensitivities by window and label.
-fn sensitivities(table: &mut [f64; 4096], phis: &[f64; 112], k: usize, order: usize, m: usize)
-    requires { ⌜ (0 < k) × (k ≤ 16) × (order ≤ 7) × (m ≤ 256) × (length (now table) ≡ 4096) ⌝ }
-    ensures { λ _. ⌜ now (table .exit) ≡ fillAt 0 (sensitivityAt k order (now (phis .entry))) (m * k) (now (table .entry)) ⌝ }
-{
-    let end = m * k;
-    for e in 0..end {
-        table[e] = sensitivity(phis, e / k, e % k, k, order);
-    }
 }
 
 // ---- once a row
@@ -116,15 +78,34 @@ fn less_lags_by_label(
     }
 }
 
+// ---- once a window
+
+// How the residual under window a, whose label now is s, moves with the mean of each label: against the mean of s, and by
+// φ_l with the mean of s_l. The row comes with +0 in all places.
+fn sensitivities(row: &mut [f64; 16], phis: &[f64; 112], a: usize, s: usize, k: usize, order: usize)
+    requires { ⌜ (s < k) × (k ≤ 16) × (order ≤ 7) × (s ≡ a % k) × (now row ≡ replicate 16 zero⁺) ⌝ }
+    ensures { λ _. ⌜ now (row .exit) ≡ sensitivitiesOf k order (now (phis .entry)) a ⌝ }
+{
+    row[s] = -1.0;
+    let mut rest = a / k;
+    for l in 0..order {
+        let older = rest / k;
+        // what % would be, without a second division
+        let r = rest - older * k;
+        row[r] = row[r] + phis[l * k + s];
+        rest = older;
+    }
+}
+
 // ---- the sums
 
-// A row of the table, which begins at `at`: f times the sensitivities that begin at `from`.
-fn add_scaled(mat: &mut [f64; 256], at: usize, alphas: &[f64; 4096], from: usize, k: usize, f: f64)
-    requires { ⌜ (at + k ≤ 256) × (from + k ≤ 4096) × (length (now mat) ≡ 256) ⌝ }
-    ensures { λ _. ⌜ now (mat .exit) ≡ fillAt at (λ c. now (mat .entry) ! (at + c) ⊕ f ⊗ now (alphas .entry) ! (from + c)) k (now (mat .entry)) ⌝ }
+// A row of the table, which begins at `at`: f times the sensitivities.
+fn add_scaled(mat: &mut [f64; 256], at: usize, row: &[f64; 16], k: usize, f: f64)
+    requires { ⌜ (at + k ≤ 256) × (k ≤ 16) × (length (now mat) ≡ 256) ⌝ }
+    ensures { λ _. ⌜ now (mat .exit) ≡ fillAt at (λ c. now (mat .entry) ! (at + c) ⊕ f ⊗ now (row .entry) ! c) k (now (mat .entry)) ⌝ }
 {
     for c in 0..k {
-        mat[at + c] = mat[at + c] + f * alphas[from + c];
+        mat[at + c] = mat[at + c] + f * row[c];
     }
 }
 
@@ -132,89 +113,87 @@ fn add_scaled(mat: &mut [f64; 256], at: usize, alphas: &[f64; 4096], from: usize
 fn add_label(
     mat: &mut [f64; 256],
     rhs: &mut [f64; 16],
-    alphas: &[f64; 4096],
-    from: usize,
+    row: &[f64; 16],
     r: usize,
     k: usize,
     gw: f64,
     d: f64,
 )
-    requires { ⌜ (r < k) × (k ≤ 16) × (from + k ≤ 4096) × (length (now mat) ≡ 256) × (length (now rhs) ≡ 16) ⌝ }
-    ensures cells { λ _. ⌜ now (mat .exit) ≡ fillAt (r * k) (λ c. cellAdded (now (alphas .entry)) from k gw (now (mat .entry)) (r * k + c)) k (now (mat .entry)) ⌝ }
-    ensures sides { λ _. ⌜ now (rhs .exit) ≡ set (now (rhs .entry)) r (sideAdded (now (alphas .entry)) from k gw d (now (rhs .entry)) r) ⌝ }
+    requires { ⌜ (r < k) × (k ≤ 16) × (length (now mat) ≡ 256) × (length (now rhs) ≡ 16) ⌝ }
+    ensures cells { λ _. ⌜ now (mat .exit) ≡ fillAt (r * k) (λ c. cellAdded (now (row .entry)) k gw (now (mat .entry)) (r * k + c)) k (now (mat .entry)) ⌝ }
+    ensures sides { λ _. ⌜ now (rhs .exit) ≡ set (now (rhs .entry)) r (sideAdded (now (row .entry)) k gw d (now (rhs .entry)) r) ⌝ }
 {
-    let x = alphas[from + r];
+    let x = row[r];
     if x == 0.0 {
         return;
     }
     rhs[r] = rhs[r] - gw * d * x;
-    add_scaled(mat, r * k, alphas, from, k, gw * x);
+    add_scaled(mat, r * k, row, k, gw * x);
 }
 
 // All labels of the window.
-fn add_labels(
-    mat: &mut [f64; 256],
-    rhs: &mut [f64; 16],
-    alphas: &[f64; 4096],
-    from: usize,
-    k: usize,
-    gw: f64,
-    d: f64,
-)
-    requires { ⌜ (k ≤ 16) × (from + k ≤ 4096) × (length (now mat) ≡ 256) × (length (now rhs) ≡ 16) ⌝ }
-    ensures cells { λ _. ⌜ now (mat .exit) ≡ fillAt 0 (cellAdded (now (alphas .entry)) from k gw (now (mat .entry))) (k * k) (now (mat .entry)) ⌝ }
-    ensures sides { λ _. ⌜ now (rhs .exit) ≡ fillAt 0 (sideAdded (now (alphas .entry)) from k gw d (now (rhs .entry))) k (now (rhs .entry)) ⌝ }
+fn add_labels(mat: &mut [f64; 256], rhs: &mut [f64; 16], row: &[f64; 16], k: usize, gw: f64, d: f64)
+    requires { ⌜ (k ≤ 16) × (length (now mat) ≡ 256) × (length (now rhs) ≡ 16) ⌝ }
+    ensures cells { λ _. ⌜ now (mat .exit) ≡ fillAt 0 (cellAdded (now (row .entry)) k gw (now (mat .entry))) (k * k) (now (mat .entry)) ⌝ }
+    ensures sides { λ _. ⌜ now (rhs .exit) ≡ fillAt 0 (sideAdded (now (row .entry)) k gw d (now (rhs .entry))) k (now (rhs .entry)) ⌝ }
 {
     for r in 0..k {
-        add_label(mat, rhs, alphas, from, r, k, gw, d);
+        add_label(mat, rhs, row, r, k, gw, d);
     }
 }
 
-// A window of smoothed weight g and variance v: nothing where its weight is zero.
+// Window a, of label now s, smoothed weight g and variance v: nothing where its weight is zero.
 fn add_window(
     mat: &mut [f64; 256],
     rhs: &mut [f64; 16],
-    alphas: &[f64; 4096],
-    from: usize,
+    phis: &[f64; 112],
+    a: usize,
+    s: usize,
     k: usize,
+    order: usize,
     g: f64,
     v: f64,
     d: f64,
 )
-    requires { ⌜ (k ≤ 16) × (from + k ≤ 4096) × (length (now mat) ≡ 256) × (length (now rhs) ≡ 16) ⌝ }
-    ensures cells { λ _. ⌜ now (mat .exit) ≡ fillAt 0 (cellSeen (now (alphas .entry)) from k v g (now (mat .entry))) (k * k) (now (mat .entry)) ⌝ }
-    ensures sides { λ _. ⌜ now (rhs .exit) ≡ fillAt 0 (sideSeen (now (alphas .entry)) from k v g d (now (rhs .entry))) k (now (rhs .entry)) ⌝ }
+    requires { ⌜ (s < k) × (k ≤ 16) × (order ≤ 7) × (s ≡ a % k) × (length (now mat) ≡ 256) × (length (now rhs) ≡ 16) ⌝ }
+    ensures cells { λ _. ⌜ now (mat .exit) ≡ fillAt 0 (cellSeen (sensitivitiesOf k order (now (phis .entry)) a) k v g (now (mat .entry))) (k * k) (now (mat .entry)) ⌝ }
+    ensures sides { λ _. ⌜ now (rhs .exit) ≡ fillAt 0 (sideSeen (sensitivitiesOf k order (now (phis .entry)) a) k v g d (now (rhs .entry))) k (now (rhs .entry)) ⌝ }
 {
     if g == 0.0 {
         return;
     }
-    add_labels(mat, rhs, alphas, from, k, g / v, d);
+    let mut row = [0.0; 16];
+    sensitivities(&mut row, phis, a, s, k, order);
+    add_labels(mat, rhs, &row, k, g / v, d);
 }
 
 // A row of m windows, whose weights stand from `at` on.
 fn add_row(
     mat: &mut [f64; 256],
     rhs: &mut [f64; 16],
-    alphas: &[f64; 4096],
+    phis: &[f64; 112],
     variances: &[f64; 16],
     ds: &[f64; 16],
     work: &[f64],
     at: usize,
     k: usize,
+    order: usize,
     m: usize,
 )
-    requires { ⌜ (0 < k) × (k ≤ 16) × (m ≤ 256) × (at + m ≤ length (now work)) × (length (now mat) ≡ 256) × (length (now rhs) ≡ 16) ⌝ }
+    requires { ⌜ (0 < k) × (k ≤ 16) × (order ≤ 7) × (m ≤ 256) × (at + m ≤ length (now work)) × (length (now mat) ≡ 256) × (length (now rhs) ≡ 16) ⌝ }
     ensures lengths { λ _. ⌜ (length (now (mat .exit)) ≡ 256) × (length (now (rhs .exit)) ≡ 16) ⌝ }
-    ensures sums { λ _. ⌜ ((q : MsarParams) (y : List Float) (rows : ℕ → List Float) (i : ℕ) → Lent q y rows i k m (now (alphas .entry)) (now (variances .entry)) (now (ds .entry)) (now (work .entry)) at → Summed q y rows (i * m) (now (mat .entry)) (now (rhs .entry)) → Summed q y rows (i * m + m) (now (mat .exit)) (now (rhs .exit))) ⌝ }
+    ensures sums { λ _. ⌜ ((q : MsarParams) (y : List Float) (rows : ℕ → List Float) (i : ℕ) → Lent q y rows i k order m (now (phis .entry)) (now (variances .entry)) (now (ds .entry)) (now (work .entry)) at → Summed q y rows (i * m) (now (mat .entry)) (now (rhs .entry)) → Summed q y rows (i * m + m) (now (mat .exit)) (now (rhs .exit))) ⌝ }
 {
     let mut s = 0;
     for a in 0..m {
         add_window(
             mat,
             rhs,
-            alphas,
-            a * k,
+            phis,
+            a,
+            s,
             k,
+            order,
             work[at + a],
             variances[s],
             ds[s],
@@ -241,8 +220,6 @@ fn add_rows(
     let m = power * k;
     let phis = density::phis(q);
     let variances = variances(q);
-    let mut alphas = [0.0; 4096];
-    sensitivities(&mut alphas, &phis, k, q.order, m);
     let mut ds = [0.0; 16];
     for i in 0..n {
         let t = window::time_of(Row(i), q.order);
@@ -250,12 +227,13 @@ fn add_rows(
         add_row(
             mat,
             rhs,
-            &alphas,
+            &phis,
             &variances,
             &ds,
             work,
             2 * i * m + m,
             k,
+            q.order,
             m,
         );
     }

@@ -10,9 +10,6 @@ use Rattle.means.proofs.add_label.Tie as tie
 fits : (c : tie.Start) → c .args .r * c .args .k + c .args .k ≤ 256
 fits c = row-within _ _ (c .pre .1) (c .pre .0)
 
-add-x : tie.Need-add-x
-add-x c = search needs
-
 mul-x : tie.Need-mul-x
 mul-x c = search needs
 
@@ -22,8 +19,8 @@ element-copy-out-x c = search needs
 returns : tie.Need-returns
 returns c =
     let a = c .before .before .args in (
-      label-skipped (a .alphas .now) (a .from) (a .k) (a .gw) (a .r) (c .if1 .taken) (a .mat .now) (omega (arith, fits (c .before .before), c .before .before .pre .3)),
-      side-skipped (a .alphas .now) (a .from) (a .k) (a .gw) (a .r) (a .d) (a .rhs .now) (c .if1 .taken),
+      label-skipped (a .row .now) (a .k) (a .gw) (a .r) (c .if1 .taken) (a .mat .now) (omega (arith, fits (c .before .before), c .before .before .pre .2)),
+      side-skipped (a .row .now) (a .k) (a .gw) (a .r) (a .d) (a .rhs .now) (c .if1 .taken),
     )
 
 mul-rhs : tie.Need-mul-rhs
@@ -43,20 +40,19 @@ mul-add-scaled c = omega (arith, fits (c .before .before .before .before))
 
 add-scaled-requires : tie.Need-add-scaled-requires
 add-scaled-requires c κs =
-    (fits (c .before .before .before .before), c .before .before .before .before .pre .2, c .before .before .before .before .pre .3)
+    (fits (c .before .before .before .before), c .before .before .before .before .pre .1, c .before .before .before .before .pre .2)
 
 returns-2 : tie.Need-returns-2
 returns-2 c =
     let a = c .before .before .before .before .before .args in (
-      label-added (a .alphas .now) (a .from) (a .k) (a .gw) (a .r) (c .before .before .before .if1 .left) (a .mat .now) (c .add-scaled .ensures),
-      side-added (a .alphas .now) (a .from) (a .k) (a .gw) (a .r) (a .d) (a .rhs .now) (c .before .before .before .if1 .left),
+      label-added (a .row .now) (a .k) (a .gw) (a .r) (c .before .before .before .if1 .left) (a .mat .now) (c .add-scaled .ensures),
+      side-added (a .row .now) (a .k) (a .gw) (a .r) (a .d) (a .rhs .now) (c .before .before .before .if1 .left),
     )
 
 pub add-label-spec : {M : Type 1} → statement M
 add-label-spec =
     tie.close
     (tie.spec
-    add-x
     mul-x
     element-copy-out-x
     returns

@@ -12,13 +12,13 @@ use Rattle.means.proofs.add_labels.Statement.{statement}
 use Rattle.means.proofs.add_labels.Tie as tie
 
 abbrev Inv-loop : tie.InvT-loop
-Inv-loop mat₀ rhs₀ alphas from k gw d r₀ mat rhs r = (r ≤ k) × (length mat ≡ 256) × (length rhs ≡ 16) × (mat ≡ fillAt 0 (cellAdded alphas from k gw mat₀) (r * k) mat₀) × (rhs ≡ fillAt 0 (sideAdded alphas from k gw d rhs₀) r rhs₀)
+Inv-loop mat₀ rhs₀ row k gw d r₀ mat rhs r = (r ≤ k) × (length mat ≡ 256) × (length rhs ≡ 16) × (mat ≡ fillAt 0 (cellAdded row k gw mat₀) (r * k) mat₀) × (rhs ≡ fillAt 0 (sideAdded row k gw d rhs₀) r rhs₀)
 
 abbrev μ-loop : tie.MeasureT-loop
-μ-loop mat₀ rhs₀ alphas from k gw d r₀ mat rhs r = k - r
+μ-loop mat₀ rhs₀ row k gw d r₀ mat rhs r = k - r
 
 loop-holds : tie.Need-loop-holds Inv-loop μ-loop
-loop-holds c = (omega arith, c .pre .2, c .pre .3, rw zero-mul (fillAt-none 0 _ _), fillAt-none 0 _ _)
+loop-holds c = (omega arith, c .pre .1, c .pre .2, rw zero-mul (fillAt-none 0 _ _), fillAt-none 0 _ _)
 
 add-label-requires : tie.Need-add-label-requires Inv-loop μ-loop
 add-label-requires c κs = search needs
@@ -35,11 +35,11 @@ loop-again c =
     let w = c .before .before .before .before .loop in
     let e = c .add-label .ensures in
     let f = row-within _ _ (c .before .before .before .before .before .pre .0) (c .before .before .before .loop-test .taken) in
-    let d = sides-more (a .alphas .now) (a .from) (a .k) (a .gw) (a .d) (w .r) (a .rhs .now) (w .inv .4) (e .1) (omega (arith, c .before .before .before .before .before .pre, c .before .before .before .loop-test .taken)) in (
+    let d = sides-more (a .row .now) (a .k) (a .gw) (a .d) (w .r) (a .rhs .now) (w .inv .4) (e .1) (omega (arith, c .before .before .before .before .before .pre, c .before .before .before .loop-test .taken)) in (
       omega arith,
       fillAt-long _ _ _ _ (e .0) (omega (arith, f, w .inv .1)) ∙ w .inv .1,
-      fill-long _ _ _ d (omega (arith, c .before .before .before .before .before .pre, c .before .before .before .loop-test .taken)) ∙ c .before .before .before .before .before .pre .3,
-      cells-more (a .alphas .now) (a .from) (a .k) (a .gw) (w .r) (a .mat .now) (w .inv .3) (e .0) (omega (arith, f, c .before .before .before .before .before .pre .2)),
+      fill-long _ _ _ d (omega (arith, c .before .before .before .before .before .pre, c .before .before .before .loop-test .taken)) ∙ c .before .before .before .before .before .pre .2,
+      cells-more (a .row .now) (a .k) (a .gw) (w .r) (a .mat .now) (w .inv .3) (e .0) (omega (arith, f, c .before .before .before .before .before .pre .1)),
       d,
     )
 

@@ -6,7 +6,7 @@ use native.Mathlib.Omega.{arith}
 use borrow.Author.Needs.{needs}
 use lib.Ieee.{Float}
 use lib.ListN.{length}
-use Rattle.number.proofs.Table.{fill-long, row-before}
+use Rattle.number.proofs.Table.{fill-long}
 use Rattle.params.specs.declared.MsarParams.{MsarParams}
 use Rattle.means.specs.Steps.{Summed, Lent}
 use Rattle.means.proofs.Walk.{window-more}
@@ -14,59 +14,47 @@ use Rattle.means.proofs.add_row.Statement.{statement}
 use Rattle.means.proofs.add_row.Tie as tie
 
 abbrev Inv-loop : tie.InvT-loop
-Inv-loop mat₀ rhs₀ alphas variances ds work at k m s₀ a₀ mat rhs s a = (a ≤ m) × (s ≡ a % k) × (s < k) × (length mat ≡ 256) × (length rhs ≡ 16) × ((q : MsarParams) (y : List Float) (rows : ℕ → List Float) (i : ℕ) → Lent q y rows i k m alphas variances ds work at → Summed q y rows (i * m) mat₀ rhs₀ → Summed q y rows (i * m + a) mat rhs)
+Inv-loop mat₀ rhs₀ phis variances ds work at k order m s₀ a₀ mat rhs s a = (a ≤ m) × (s ≡ a % k) × (s < k) × (length mat ≡ 256) × (length rhs ≡ 16) × ((q : MsarParams) (y : List Float) (rows : ℕ → List Float) (i : ℕ) → Lent q y rows i k order m phis variances ds work at → Summed q y rows (i * m) mat₀ rhs₀ → Summed q y rows (i * m + a) mat rhs)
 
 abbrev μ-loop : tie.MeasureT-loop
-μ-loop mat₀ rhs₀ alphas variances ds work at k m s₀ a₀ mat rhs s a = m - a
+μ-loop mat₀ rhs₀ phis variances ds work at k order m s₀ a₀ mat rhs s a = m - a
 
--- the window's sensitivities lie in their table, and the sums in theirs
-in-alphas : (c : tie.In-loop Inv-loop μ-loop) → c .before .loop .a * c .before .before .before .args .k + c .before .before .before .args .k ≤ 4096
-in-alphas c =
-    omega (arith, row-before (c .before .before .before .args .k) _ _ (c .loop-test .taken), mul-le-mul (c .before .before .before .pre .2) (c .before .before .before .pre .1))
-
+-- the table has so many places
 in-table : (c : tie.Start Inv-loop μ-loop) → c .args .k * c .args .k ≤ 256
 in-table c = mul-le-mul (c .pre .1) (c .pre .1)
 
 loop-holds : tie.Need-loop-holds Inv-loop μ-loop
-loop-holds c = (omega arith, sym (zero-mod _), c .before .pre .0, c .before .pre .4, c .before .pre .5, λ q y rows i l w. rw add-zero w)
-
-mul-add-window : tie.Need-mul-add-window Inv-loop μ-loop
-mul-add-window c = omega (arith, in-alphas (c .before .before))
+loop-holds c = (omega arith, sym (zero-mod _), c .before .pre .0, c .before .pre .5, c .before .pre .6, λ q y rows i l w. rw add-zero w)
 
 add-add-window : tie.Need-add-add-window Inv-loop μ-loop
 add-add-window c = search needs
 
-mul-add-window-2 : tie.Need-mul-add-window-2 Inv-loop μ-loop
-mul-add-window-2 c = search needs
+mul-add-window : tie.Need-mul-add-window Inv-loop μ-loop
+mul-add-window c = search needs
 
 shared-slice-read-add-window : tie.Need-shared-slice-read-add-window Inv-loop μ-loop
 shared-slice-read-add-window c = search needs
 
-mul-add-window-3 : tie.Need-mul-add-window-3 Inv-loop μ-loop
-mul-add-window-3 c = search needs
+mul-add-window-2 : tie.Need-mul-add-window-2 Inv-loop μ-loop
+mul-add-window-2 c = search needs
 
 element-copy-out-add-window : tie.Need-element-copy-out-add-window Inv-loop μ-loop
 element-copy-out-add-window c = search needs
 
-mul-add-window-4 : tie.Need-mul-add-window-4 Inv-loop μ-loop
-mul-add-window-4 c = search needs
+mul-add-window-3 : tie.Need-mul-add-window-3 Inv-loop μ-loop
+mul-add-window-3 c = search needs
 
 element-copy-out-add-window-2 : tie.Need-element-copy-out-add-window-2 Inv-loop μ-loop
 element-copy-out-add-window-2 c = search needs
 
 add-window-requires : tie.Need-add-window-requires Inv-loop μ-loop
-add-window-requires c κs = (
-  c .before .before .before .before .before .before .before .before .pre .1,
-  in-alphas (c .before .before .before .before .before),
-  c .before .before .before .before .before .before .loop .inv .3,
-  c .before .before .before .before .before .before .loop .inv .4,
-)
+add-window-requires c κs =
+    let l = c .before .before .before .before .before .before .loop in
+    let h = c .before .before .before .before .before .before .before .before .pre in
+    (l .inv .2, h .1, h .2, l .inv .1, l .inv .3, l .inv .4)
 
 next-label-requires : tie.Need-next-label-requires Inv-loop μ-loop
-next-label-requires c κs = (
-  c .before .before .before .before .before .before .before .loop .inv .2,
-  c .before .before .before .before .before .before .before .before .before .pre .1,
-)
+next-label-requires c κs = (c .before .before .before .before .before .before .before .loop .inv .2, c .before .before .before .before .before .before .before .before .before .pre .1)
 
 add-a : tie.Need-add-a Inv-loop μ-loop
 add-a c = search needs
@@ -103,13 +91,12 @@ add-row-spec =
     Inv-loop
     μ-loop
     loop-holds
-    mul-add-window
     add-add-window
-    mul-add-window-2
+    mul-add-window
     shared-slice-read-add-window
-    mul-add-window-3
+    mul-add-window-2
     element-copy-out-add-window
-    mul-add-window-4
+    mul-add-window-3
     element-copy-out-add-window-2
     add-window-requires
     next-label-requires

@@ -18,10 +18,10 @@ use Rattle.means.proofs.add_rows.Statement.{statement}
 use Rattle.means.proofs.add_rows.Tie as tie
 
 abbrev Inv-loop : tie.InvT-loop
-Inv-loop q y power n work mat₀ rhs₀ k m phis variances alphas ds₀ i₀ mat rhs ds i = (i ≤ n) × (length mat ≡ 256) × (length rhs ≡ 16) × (length ds ≡ 16) × Summed q y (λ j. drop (filteredFrom (windowsOf q) j) work) (i * windowsOf q) mat rhs
+Inv-loop q y power n work mat₀ rhs₀ k m phis variances ds₀ i₀ mat rhs ds i = (i ≤ n) × (length mat ≡ 256) × (length rhs ≡ 16) × (length ds ≡ 16) × Summed q y (λ j. drop (filteredFrom (windowsOf q) j) work) (i * windowsOf q) mat rhs
 
 abbrev μ-loop : tie.MeasureT-loop
-μ-loop q y power n work mat₀ rhs₀ k m phis variances alphas ds₀ i₀ mat rhs ds i = n - i
+μ-loop q y power n work mat₀ rhs₀ k m phis variances ds₀ i₀ mat rhs ds i = n - i
 
 -- how many windows there are
 abbrev m : tie.Start Inv-loop μ-loop → ℕ
@@ -39,7 +39,7 @@ few c = rw (← windows (c .args .q) (c .pre .1 .0)) (c .pre .0 .few)
 
 -- from row i back to the call
 abbrev start : tie.In-loop Inv-loop μ-loop → tie.Start Inv-loop μ-loop
-start c = c .before .before .before .before .before .before .before .before .before
+start c = c .before .before .before .before .before .before
 
 -- row i of the memory
 in-memory : (c : tie.In-loop Inv-loop μ-loop) → 2 * c .before .loop .i * m (start c) + m (start c) + m (start c) ≤ length (start c .args .work .now)
@@ -59,12 +59,9 @@ phis-requires c κs = (k-above (c .before .before), c .before .before .pre .0 .h
 variances-requires : tie.Need-variances-requires Inv-loop μ-loop
 variances-requires c κs = c .before .before .before .pre .0 .high
 
-sensitivities-requires : tie.Need-sensitivities-requires Inv-loop μ-loop
-sensitivities-requires c κs = let s = c .before .before .before .before .before .before in (k-above s, s .pre .0 .high, order-small s, few s, refl)
-
 loop-holds : tie.Need-loop-holds Inv-loop μ-loop
 loop-holds c =
-    let s = c .before .before .before .before .before .before .before in (
+    let s = c .before .before .before .before in (
       omega arith,
       rw (s .pre .1 .4) refl,
       rw (s .pre .1 .5) refl,
@@ -101,7 +98,7 @@ add-row-requires : tie.Need-add-row-requires Inv-loop μ-loop
 add-row-requires c κs =
     let r = c .before .before .before .before .before .before .before .before .before in
     let s = start r in
-    (k-above s, s .pre .0 .high, few s, omega (arith, in-memory r), r .before .loop .inv .1, r .before .loop .inv .2)
+    (k-above s, s .pre .0 .high, order-small s, few s, omega (arith, in-memory r), r .before .loop .inv .1, r .before .loop .inv .2)
 
 add-i : tie.Need-add-i Inv-loop μ-loop
 add-i c =
@@ -119,7 +116,7 @@ loop-again c =
     let e = c .add-row .ensures in
     let w = windows (s .args .q) (s .pre .1 .0) in
     let d = c .before .before .before .before .before .before .less-lags-by-label .ensures in
-    let lent = lent-for (s .args .q) (k-above s) _ w (s .args .y .now) (s .args .work .now) (l .i) (replicate 4096 zero⁺) (replicate 16 zero⁺) (l .ds) (c .before .before .before .before .before .before .before .before .before .before .before .before .before .before .before .before .phis .ensures) (c .before .before .before .before .before .before .before .before .before .before .before .before .sensitivities .ensures) (c .before .before .before .before .before .before .before .before .before .before .before .before .before .before .before .variances .ensures) (c .before .before .before .before .before .before .before .before .before .time-of .ensures) d in (
+    let lent = lent-for (s .args .q) (k-above s) _ w (s .args .y .now) (s .args .work .now) (l .i) (replicate 16 zero⁺) (l .ds) (c .before .before .before .before .before .before .before .before .before .before .before .before .before .phis .ensures) (c .before .before .before .before .before .before .before .before .before .before .before .before .variances .ensures) (c .before .before .before .before .before .before .before .before .before .time-of .ensures) d in (
       omega (arith, r .loop-test .taken),
       e .0 .0,
       e .0 .1,
@@ -129,7 +126,7 @@ loop-again c =
 
 returns : tie.Need-returns Inv-loop μ-loop
 returns c =
-    let e : c .before .loop .i ≡ c .before .before .before .before .before .before .before .before .before .args .n = omega arith in
+    let e : c .before .loop .i ≡ c .before .before .before .before .before .before .args .n = omega arith in
     rw e at (c .before .loop .inv .4)
 
 pub add-rows-spec : {M : Type 1} → statement M
@@ -141,7 +138,6 @@ add-rows-spec =
     mul-m
     phis-requires
     variances-requires
-    sensitivities-requires
     loop-holds
     time-of-requires
     less-lags-by-label-requires

@@ -11,10 +11,10 @@ use Rattle.means.proofs.add_scaled.Statement.{statement}
 use Rattle.means.proofs.add_scaled.Tie as tie
 
 abbrev Inv-loop : tie.InvT-loop
-Inv-loop mat₀ at alphas from k f c₀ mat c = (c ≤ k) × (length mat ≡ 256) × (mat ≡ fillAt at (λ c. mat₀ ! (at + c) ⊕ f ⊗ alphas ! (from + c)) c mat₀)
+Inv-loop mat₀ at row k f c₀ mat c = (c ≤ k) × (length mat ≡ 256) × (mat ≡ fillAt at (λ c. mat₀ ! (at + c) ⊕ f ⊗ row ! c) c mat₀)
 
 abbrev μ-loop : tie.MeasureT-loop
-μ-loop mat₀ at alphas from k f c₀ mat c = k - c
+μ-loop mat₀ at row k f c₀ mat c = k - c
 
 loop-holds : tie.Need-loop-holds Inv-loop μ-loop
 loop-holds c = (omega arith, c .pre .2, fillAt-none _ _ _)
@@ -28,17 +28,14 @@ mul-mat c = search needs
 element-copy-out-mat : tie.Need-element-copy-out-mat Inv-loop μ-loop
 element-copy-out-mat c = search needs
 
-add-mat-2 : tie.Need-add-mat-2 Inv-loop μ-loop
-add-mat-2 c = search needs
-
 mul-mat-2 : tie.Need-mul-mat-2 Inv-loop μ-loop
 mul-mat-2 c = search needs
 
 element-copy-out-mat-2 : tie.Need-element-copy-out-mat-2 Inv-loop μ-loop
 element-copy-out-mat-2 c = search needs
 
-add-mat-3 : tie.Need-add-mat-3 Inv-loop μ-loop
-add-mat-3 c = search needs
+add-mat-2 : tie.Need-add-mat-2 Inv-loop μ-loop
+add-mat-2 c = search needs
 
 mul-mat-3 : tie.Need-mul-mat-3 Inv-loop μ-loop
 mul-mat-3 c = search needs
@@ -57,7 +54,7 @@ loop-again c =
     let a = c .before .before .before .before .args in (
       omega arith,
       simp length-set (c .before .before .before .loop .inv .1),
-      scaled-more (a .alphas .now) (a .at) (a .from) (a .f) _ (a .mat .now) (c .before .before .before .loop .inv .2) (omega (arith, c .before .before .before .before .pre)),
+      scaled-more (a .row .now) (a .at) (a .f) _ (a .mat .now) (c .before .before .before .loop .inv .2) (omega (arith, c .before .before .before .before .pre)),
     )
 
 returns : tie.Need-returns Inv-loop μ-loop
@@ -73,10 +70,9 @@ add-scaled-spec =
     add-mat
     mul-mat
     element-copy-out-mat
-    add-mat-2
     mul-mat-2
     element-copy-out-mat-2
-    add-mat-3
+    add-mat-2
     mul-mat-3
     element-write-mat
     add-c

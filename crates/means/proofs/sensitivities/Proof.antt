@@ -1,62 +1,94 @@
-use Prim.Native.Nat.{_*_, _-_, _≤_}
-use mathlib.Core.Path.{_≡_}
-use native.Mathlib.Nat.{mul-le-mul}
+use Prim.Native.Nat.{ℕ, suc, _+_, _*_, _-_, _/_, _^_, _<_, _≤_}
+use mathlib.Core.Path.{_≡_, subst}
+use native.Mathlib.Nat.{mod-lt, div-mul-le-self}
 use native.Mathlib.Omega.{arith}
 use borrow.Author.Needs.{needs}
-use lib.ListN.{length-set, length}
-use Rattle.number.proofs.Table.{fillAt-none, fill-more}
-use Rattle.number.specs.Table.{fillAt}
-use Rattle.means.specs.Steps.{sensitivityAt}
+use Rattle.means.specs.Steps.{sensitivitiesOf}
+use Rattle.means.proofs.Lags.{left-is, phi-within, rest-first, rest-next, rest-below, row-now, row-lag}
 use Rattle.means.proofs.sensitivities.Statement.{statement}
 use Rattle.means.proofs.sensitivities.Tie as tie
 
 abbrev Inv-loop : tie.InvT-loop
-Inv-loop table₀ phis k order m end e₀ table e = (e ≤ m * k) × (length table ≡ 4096) × (table ≡ fillAt 0 (sensitivityAt k order phis) e table₀)
+Inv-loop row₀ phis a s k order rest₀ l₀ row rest l = (l ≤ order) × (rest ≡ a / k ^ suc l) × (row ≡ sensitivitiesOf k l phis a)
 
 abbrev μ-loop : tie.MeasureT-loop
-μ-loop table₀ phis k order m end e₀ table e = m * k - e
+μ-loop row₀ phis a s k order rest₀ l₀ row rest l = order - l
 
--- the table has so many places
-fits : (c : tie.Start Inv-loop μ-loop) → c .args .m * c .args .k ≤ 4096
-fits c = omega (arith, mul-le-mul (c .pre .3) (c .pre .1))
+-- the place of the lag's label, which lies below k, and of its coefficient
+abbrev r : tie.In-loop Inv-loop μ-loop → ℕ
+r c = c .before .loop .rest - c .before .loop .rest / c .before .before .args .k * c .before .before .args .k
 
-mul-end : tie.Need-mul-end Inv-loop μ-loop
-mul-end c = omega (arith, fits c)
+label-in : (c : tie.In-loop Inv-loop μ-loop) → r c < c .before .before .args .k
+label-in c = subst (λ (x : ℕ). x < c .before .before .args .k) (left-is _ _) (mod-lt _ (omega (arith, c .before .before .pre .0)))
+
+phi-in : (c : tie.In-loop Inv-loop μ-loop) → c .before .loop .l * c .before .before .args .k + c .before .before .args .s < 112
+phi-in c = phi-within _ _ _ _ (c .loop-test .taken) (c .before .before .pre .2) (c .before .before .pre .0) (c .before .before .pre .1)
+
+mul-row : tie.Need-mul-row Inv-loop μ-loop
+mul-row c = search needs
+
+element-write-row : tie.Need-element-write-row Inv-loop μ-loop
+element-write-row c = search needs
+
+div-rest : tie.Need-div-rest Inv-loop μ-loop
+div-rest c = search needs
 
 loop-holds : tie.Need-loop-holds Inv-loop μ-loop
-loop-holds c = (omega arith, c .pre .4, fillAt-none 0 _ _)
+loop-holds c =
+    let a = c .args in
+    (omega arith, rest-first _ _, row-now (a .k) (a .a) (a .phis .now) (c .pre .3) (c .pre .4) (c .pre .0) (c .pre .1))
 
-div-sensitivity : tie.Need-div-sensitivity Inv-loop μ-loop
-div-sensitivity c = search needs
+div-older : tie.Need-div-older Inv-loop μ-loop
+div-older c = search needs
 
-rem-sensitivity : tie.Need-rem-sensitivity Inv-loop μ-loop
-rem-sensitivity c = search needs
+mul-r : tie.Need-mul-r Inv-loop μ-loop
+mul-r c = omega (arith, div-mul-le-self (c .before .loop .rest) (c .before .before .args .k), rest-below _ _ _ (c .before .loop .inv .1), c .before .before .good)
 
-sensitivity-requires : tie.Need-sensitivity-requires Inv-loop μ-loop
-sensitivity-requires c κs = search needs
+sub-r : tie.Need-sub-r Inv-loop μ-loop
+sub-r c = div-mul-le-self (c .before .loop .rest) (c .before .before .args .k)
 
-mul-table : tie.Need-mul-table Inv-loop μ-loop
-mul-table c = omega (arith, fits (c .before .before .before))
+mul-row-2 : tie.Need-mul-row-2 Inv-loop μ-loop
+mul-row-2 c = omega (arith, label-in c, c .before .before .pre .1)
 
-element-write-table : tie.Need-element-write-table Inv-loop μ-loop
-element-write-table c = omega (arith, fits (c .before .before .before))
+element-copy-out-row : tie.Need-element-copy-out-row Inv-loop μ-loop
+element-copy-out-row c = omega (arith, label-in c, c .before .before .pre .1)
 
-add-e : tie.Need-add-e Inv-loop μ-loop
-add-e c = omega (arith, fits (c .before .before .before))
+mul-row-3 : tie.Need-mul-row-3 Inv-loop μ-loop
+mul-row-3 c = omega (arith, phi-in (c .before))
+
+add-row : tie.Need-add-row Inv-loop μ-loop
+add-row c = omega (arith, phi-in (c .before))
+
+mul-row-4 : tie.Need-mul-row-4 Inv-loop μ-loop
+mul-row-4 c = omega (arith, phi-in (c .before))
+
+element-copy-out-row-2 : tie.Need-element-copy-out-row-2 Inv-loop μ-loop
+element-copy-out-row-2 c = phi-in (c .before)
+
+mul-row-5 : tie.Need-mul-row-5 Inv-loop μ-loop
+mul-row-5 c = omega (arith, label-in (c .before .before), c .before .before .before .before .pre .1)
+
+element-write-row-2 : tie.Need-element-write-row-2 Inv-loop μ-loop
+element-write-row-2 c = omega (arith, label-in (c .before .before), c .before .before .before .before .pre .1)
+
+add-l : tie.Need-add-l Inv-loop μ-loop
+add-l c = search needs
 
 loop-less : tie.Need-loop-less Inv-loop μ-loop
 loop-less c = search needs
 
 loop-again : tie.Need-loop-again Inv-loop μ-loop
-unfolding sensitivityAt
-loop-again c = (
-  omega arith,
-  simp length-set (c .before .before .loop .inv .1),
-  fill-more _ _ _ (c .before .before .loop .inv .2) (c .sensitivity .ensures) (omega (arith, fits (c .before .before .before), c .before .before .before .pre .4)),
-)
+loop-again c =
+    let a = c .before .before .before .before .args in
+    let w = c .before .before .before .loop in
+    let h = c .before .before .before .before .pre in (
+      omega arith,
+      rest-next _ _ _ (w .inv .1),
+      row-lag (a .k) (a .a) (a .phis .now) (h .3) (w .l) (w .inv .2) (w .inv .1) (left-is _ _) (label-in (c .before .before)) (h .1),
+    )
 
 returns : tie.Need-returns Inv-loop μ-loop
-returns c = let e : c .before .loop .e ≡ c .before .before .args .m * c .before .before .args .k = omega arith in rw e at (c .before .loop .inv .2)
+returns c = let e : c .before .loop .l ≡ c .before .before .args .order = omega arith in rw e at (c .before .loop .inv .2)
 
 pub sensitivities-spec : {M : Type 1} → statement M
 sensitivities-spec =
@@ -64,14 +96,22 @@ sensitivities-spec =
     (tie.spec
     Inv-loop
     μ-loop
-    mul-end
+    mul-row
+    element-write-row
+    div-rest
     loop-holds
-    div-sensitivity
-    rem-sensitivity
-    sensitivity-requires
-    mul-table
-    element-write-table
-    add-e
+    div-older
+    mul-r
+    sub-r
+    mul-row-2
+    element-copy-out-row
+    mul-row-3
+    add-row
+    mul-row-4
+    element-copy-out-row-2
+    mul-row-5
+    element-write-row-2
+    add-l
     loop-less
     loop-again
     returns)
