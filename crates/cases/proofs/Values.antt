@@ -1,7 +1,7 @@
 -- What the called functions answer for the examples, from the definitions that their contracts cite. Assumes nothing.
 use mathlib.Core.Path.{_≡_, refl, ap, ap₂, _∙_}
 use mathlib.Core.Bool.{Bool, true, false, _&&_}
-use mathlib.Core.List.{List, _∷_}
+use mathlib.Core.List.{List, [], _∷_}
 use Prim.Native.Nat.{ℕ, _+_, _<_}
 use borrow.Author.Tests.{eq-eqb}
 use lib.Dec.{lit≤}
@@ -13,9 +13,12 @@ use Rattle.number.specs.Sums.{sumUp}
 use Rattle.number.specs.Table.{_!_, tab, fillAt}
 use Rattle.number.proofs.Table.{fill-at}
 use Rattle.refusal.specs.Checks.{each}
-use Rattle.refusal.specs.declared.Check.the-variants.{Passed}
-use Rattle.refusal.specs.declared.Refusal.the-variants.{Singular}
+use Rattle.refusal.specs.declared.Check.the-variants.{Passed, Failed}
+use Rattle.refusal.specs.declared.Refusal.the-variants.{Singular, SampleVariance}
+use Rattle.spec.specs.Spec.{specCheck}
+use Rattle.spec.specs.declared.MsarSpec.{MsarSpec}
 use Rattle.params.specs.declared.MsarParams.{MsarParams}
+use Rattle.params.specs.Parameters.{matchesSpec}
 use Rattle.params.specs.Checks.{isProbability, columnSum, meanCheck, entryCheck, columnCheck, arCheck, varianceCheck, parameterCheck}
 use Rattle.params.specs.Durations.{duration, durationsOf}
 use Rattle.rounding.specs.Units.{inUnits}
@@ -27,7 +30,11 @@ use Rattle.window.specs.Shape.{Shape}
 use Rattle.rows.specs.Steps.{labelSum, labelSumAt}
 use Rattle.prediction.specs.Prediction.{firstTo, firstPrediction}
 use Rattle.prediction.specs.Steps.{firstAt, stepAt, laterAt, sumBefore}
-use Rattle.cases.specs.Cases.{same, fails, twoRegimes, unitsOf}
+use Rattle.binding.specs.Binding.{readingCheck, seriesCheck, boundCheck, paramsCheck, admittedCheck}
+use Rattle.binding.specs.declared.Tables.the-variants.{One}
+use Rattle.series.proofs.Examples as variances
+use Rattle.fit.specs.Calls.{fitCheck, fitCall}
+use Rattle.cases.specs.Cases.{same, fails, failsWith, twoRegimes, unitsOf}
 
 -- ---- comparisons
 
@@ -37,6 +44,9 @@ both e f = rw (e, f)
 pub is-same : {b : Bool} {x y : Float} → b ≡ same x y → x ≡ y → b ≡ true
 unfolding same
 is-same {x = x} {y = y} e f = e ∙ eq-eqb _ _ (ap (toBits lib.Ieee.binary64) f)
+
+pub with-value : {a b c : Bool} {x z : Float} (value : Float) → a ≡ c → b ≡ same x value → x ≡ z → (a && b) ≡ (c && same z value)
+with-value value e f g = rw (e, f, g)
 
 -- ---- parameters of two regimes
 
@@ -66,6 +76,32 @@ p5 = rw (passes .p5) (shares.values .p4)
 pub p6 : sharesOf (twoRegimes 0 one zero⁺ zero⁺ one) ≡ none (Singular 0)
 unfolding sharesOf
 p6 = rw (passes .p6) (shares.values .p6)
+
+-- ---- the fit
+
+-- two labels, order 1
+abbrev pub spec : MsarSpec
+spec = record { «k_regimes» = 2; order = 1; «switching_ar» = false; «switching_variance» = false }
+
+abbrev pub constant : List Float
+constant = two ∷ two ∷ []
+
+admitted : admittedCheck spec constant (twoRegimes 1 quarter quarter most most) 12 (One 2) ≡ Passed
+unfolding admittedCheck boundCheck specCheck seriesCheck readingCheck paramsCheck matchesSpec parameterCheck meanCheck entryCheck columnCheck arCheck varianceCheck columnSum sumUp isProbability usable each magnitudeOf lt le eq ofBits mul div add sub neg sum round size units odd span climb ofFields trailingZeros
+admitted = refl
+
+checked : fitCheck (twoRegimes 1 quarter quarter most most) constant ≡ Failed (SampleVariance zero⁺)
+unfolding fitCheck usable lt ofBits
+checked = rw (variances.values .p9-constant)
+
+pub p9 : (maxIter : ℕ) (tol : Float) → fitCall spec constant (twoRegimes 1 quarter quarter most most) maxIter tol (replicate 12 zero⁺) (replicate 2 zero⁺) .answer .check
+    ≡ Failed (SampleVariance zero⁺)
+unfolding fitCall
+p9 maxIter tol = rw (admitted, checked)
+
+pub p9-told : failsWith (Failed (SampleVariance zero⁺)) 25 0 zero⁺ ≡ true
+unfolding same toBits ofBits
+p9-told = refl
 
 -- ---- the first row, and a later one
 

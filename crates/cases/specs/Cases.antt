@@ -25,6 +25,11 @@ abbrev pub fails : Check → ℕ → ℕ → Bool
 fails Passed number place = false
 fails (Failed r) number place = tells r number place
 
+-- which carries this value too
+abbrev pub failsWith : Check → ℕ → ℕ → Float → Bool
+failsWith Passed number place value = false
+failsWith (Failed r) number place value = tells r number place && same (said r .value) value
+
 abbrev pub passes : Check → Bool
 passes Passed = true
 passes (Failed r) = false

@@ -3,10 +3,13 @@
 ghost use mathlib.Core.Path.{_≡_};
 ghost use mathlib.Core.Bool.{true};
 ghost use Prim.Native.Nat.{_<_, _^_};
+ghost use Rattle.number.specs.Number.{zero⁺};
 ghost use Rattle.number.specs.Sums.{sumUp};
 ghost use Rattle.number.specs.Table.{_!_};
 ghost use Rattle.spec.specs.Spec.{windowCount};
-ghost use Rattle.cases.specs.Cases.{same, tells, fails, passes, hasWindows, isRefused, pairOf, twoRegimes, unitsOf};
+ghost use Rattle.refusal.specs.declared.Check.the-variants.{Failed};
+ghost use Rattle.refusal.specs.declared.Refusal.the-variants.{SampleVariance};
+ghost use Rattle.cases.specs.Cases.{same, tells, fails, failsWith, passes, hasWindows, isRefused, pairOf, twoRegimes, unitsOf};
 use params::MsarParams;
 use refusal::Check;
 use refusal::Refusal;
@@ -153,6 +156,16 @@ fn failed(check: Check, number: usize, place: usize) -> bool
     }
 }
 
+// The same, and with this value.
+fn failed_with(check: Check, number: usize, place: usize, value: f64) -> bool
+    ensures { λ r. ⌜ r ≡ failsWith check number place value ⌝ }
+{
+    match check {
+        Check::Passed => false,
+        Check::Failed(r) => says(r, number, place) & is(r.value(), value),
+    }
+}
+
 fn passed(check: Check) -> bool
     ensures { λ r. ⌜ r ≡ passes check ⌝ }
 {
@@ -269,10 +282,35 @@ fn sample_variances() -> bool
     is(series::sample_variance(&spread), 1.0) & is(series::sample_variance(&constant), 0.0)
 }
 
+// What a fit at order 1 of the series 2, 2 is refused by; it is lent all the memory that it needs, for one row of four windows.
+fn constant_fit() -> Check
+    ensures { λ r. ⌜ r ≡ Failed (SampleVariance zero⁺) ⌝ }
+{
+    let s = MsarSpec {
+        k_regimes: 2,
+        order: 1,
+        switching_ar: false,
+        switching_variance: false,
+    };
+    let constant = [2.0, 2.0];
+    let mut work = [0.0; 12];
+    let mut smoothed = [0.0; 2];
+    let q = two(1, 0.25, 0.25, 0.75, 0.75);
+    let a = fit::fit(s, &constant, q, 100, 1e-8, &mut work, &mut smoothed);
+    a.check
+}
+
+// 25, which carries the variance.
+fn fit_refused() -> bool
+    ensures { λ r. ⌜ r ≡ true ⌝ }
+{
+    failed_with(constant_fit(), 25, 0, 0.0)
+}
+
 fn p9() -> bool
     ensures { λ r. ⌜ r ≡ true ⌝ }
 {
-    sample_variances()
+    sample_variances() & fit_refused()
 }
 
 // ---- parameters

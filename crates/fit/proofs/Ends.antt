@@ -8,6 +8,7 @@ use borrow.Author.Tests.{eqb-false}
 use lib.ListN.{length}
 use lib.Ieee.{Float}
 use Rattle.number.specs.Number.{_=?_, _⊗_, zero⁺, usable}
+use Rattle.refusal.specs.declared.Check.{Check}
 use Rattle.refusal.specs.declared.Check.the-variants.{Passed, Failed}
 use Rattle.refusal.specs.declared.Refusal.{Refusal}
 use Rattle.refusal.specs.declared.Refusal.the-variants.{OrderZero, SampleVariance}
@@ -26,11 +27,11 @@ use Rattle.binding.specs.declared.Bound.{Bound}
 use Rattle.binding.specs.declared.Tables.the-variants.{One}
 use Rattle.series.specs.Series.{sampleVariance}
 use Rattle.ridge.specs.Ridge.{small}
-use Rattle.filter.specs.Filter.{answerOf}
+use Rattle.filter.specs.Filter.{runCheck, loglikOf, answerAfter, answerOf}
 use Rattle.filter.specs.Steps.{windowsOf}
 use Rattle.filter.specs.declared.Answer.{Answer}
 use Rattle.model.specs.Calls.{cleared, smoothedTable}
-use Rattle.model.proofs.Runs.{rows-fit, run-says}
+use Rattle.model.proofs.Runs.{rows-fit}
 use Rattle.model.proofs.Admitted.{Admitted}
 use Rattle.step.specs.Ready.{Ready}
 use Rattle.step.proofs.Kept.{Alike, windows-alike, still-ready}
@@ -39,18 +40,25 @@ use Rattle.fit.specs.declared.State.{State}
 use Rattle.fit.specs.declared.Fitted.{Fitted}
 use Rattle.fit.specs.Fit.{passesTo, fittedAfter, closed, fittedOf}
 use Rattle.fit.specs.Calls.{fitCheck, fittedTable, fitCall}
-use Rattle.fit.proofs.OnePass.{loglik-is}
 
 -- ---- the closing pass
 
-module _ (y : List Float) (q : MsarParams) (i : ℕ) (c : Bool) {a : Answer} (answer : a ≡ answerOf q y) {f : Fitted} where
-  pub closing-refused : {r : Refusal} → a .check ≡ Failed r → f ≡ fittedAfter (Failed r) q zero⁺ i c → f ≡ closed y q i c
-  unfolding closed
-  closing-refused d e = rw (run-says q y answer d) e
+module _ (y : List Float) (q : MsarParams) (i : ℕ) (c : Bool) {a : Answer} (answer : a ≡ answerOf q y) where
+  loglik-after : (d : Check) (loglik : Float) → fittedAfter (answerAfter d loglik .check) q (answerAfter d loglik .loglik) i c ≡ fittedAfter d q loglik i c
+  loglik-after Passed loglik = refl
+  loglik-after (Failed r) loglik = refl
 
-  pub closing-passed : a .check ≡ Passed → f ≡ fittedAfter Passed q (a .loglik) i c → f ≡ closed y q i c
-  unfolding closed
-  closing-passed d e = rw (run-says q y answer d, ← loglik-is q y answer d) e
+  -- what is made of its answer
+  pub closing-is : {f : Fitted} → f ≡ fittedAfter (a .check) q (a .loglik) i c → f ≡ closed y q i c
+  unfolding closed answerOf
+  closing-is e = e ∙ ap (λ (x : Answer). fittedAfter (x .check) q (x .loglik) i c) answer ∙ loglik-after (runCheck q y) (loglikOf q y)
+
+module _ (a : Answer) (q : MsarParams) (i : ℕ) (c : Bool) {f : Fitted} where
+  pub ended-passed : a .check ≡ Passed → f ≡ fittedAfter Passed q (a .loglik) i c → f ≡ fittedAfter (a .check) q (a .loglik) i c
+  ended-passed e d = d ∙ ap (λ (x : Check). fittedAfter x q (a .loglik) i c) (sym e)
+
+  pub ended-by-refusal : {r : Refusal} → a .check ≡ Failed r → f ≡ fittedAfter (Failed r) q (a .loglik) i c → f ≡ fittedAfter (a .check) q (a .loglik) i c
+  ended-by-refusal e d = d ∙ ap (λ (x : Check). fittedAfter x q (a .loglik) i c) (sym e)
 
 -- a refusal beside zeros
 pub refused-is : (r : Refusal) {b : Built} (q : MsarParams) (loglik : Float) (i : ℕ) (c : Bool) → b ≡ record { check = Failed r; params = nothing }

@@ -9,7 +9,7 @@ use native.Mathlib.Numerals.{add-one}
 use lib.Ieee.{Float}
 use lib.Ieee.Scale.{finite}
 use Rattle.number.specs.Number.{if_then_else_, zero⁺}
-use Rattle.refusal.specs.Checks.{_when_}
+use Rattle.refusal.specs.Checks.{_before_, _when_}
 use Rattle.refusal.specs.declared.Check.{Check}
 use Rattle.refusal.specs.declared.Check.the-variants.{Passed, Failed}
 use Rattle.refusal.specs.declared.Refusal.{Refusal}
@@ -22,23 +22,27 @@ use Rattle.step.proofs.Kept.{Alike, alike-twice, Good, step-good}
 use Rattle.fit.specs.declared.Course.{Course}
 use Rattle.fit.specs.declared.Course.the-variants.{Going, Converged, Refused}
 use Rattle.fit.specs.declared.State.{State}
-use Rattle.fit.specs.Fit.{_reaches_, smoothedRows, stops, passOf, onward, passesTo}
+use Rattle.fit.specs.Fit.{reached, smoothedRows, stops, passOf, onward, passesTo}
 
 -- ---- the loop
 
 module _ (y : List Float) (tol : Float) (start : MsarParams) where
-  pub none : {s : State} → s ≡ record { course = Going; params = start; loglik = zero⁺ } → s ≡ passesTo y tol start 0
+  pub none : {l : Float} → l ≡ zero⁺ → record { course = Going; params = start; loglik = l } ≡ passesTo y tol start 0
   unfolding passesTo
-  none e = e
-
-  pub one-more : (i : ℕ) {s s′ : State} → s ≡ passesTo y tol start i → s .course ≡ Going → s′ ≡ passOf y tol i (s .params) (s .loglik)
-      → s′ ≡ passesTo y tol start (i + 1)
-  unfolding passesTo
-  one-more i e g d = rw (add-one i, ← e, g) d
+  none e = ap (λ (x : Float). record { course = Going; params = start; loglik = x }) e
 
   next-is : (i : ℕ) → passesTo y tol start (suc i) ≡ onward y tol i (passesTo y tol start i) (passesTo y tol start i .course)
   unfolding passesTo
   next-is i = refl
+
+  -- one more, from the parameters and the log-likelihood that the first i left
+  pub one-more : (i : ℕ) {q : MsarParams} {last : Float} {s : State} → record { course = Going; params = q; loglik = last } ≡ passesTo y tol start i
+      → s ≡ passOf y tol i q last → s ≡ passesTo y tol start (i + 1)
+  one-more i {q} {last} e d =
+      d
+      ∙ ap (λ (t : State). onward y tol i t (t .course)) e
+      ∙ sym (next-is i)
+      ∙ ap (passesTo y tol start) (sym (add-one i))
 
   -- passes that do not go on stay as they are
   module _ (i : ℕ) {s : State} (e : s ≡ passesTo y tol start i) where
@@ -72,9 +76,10 @@ pub alike-self : (q : MsarParams) → Alike q q
 alike-self q = record { labels = refl; order = refl; blocks = refl; variances = refl }
 
 module _ (start : MsarParams) where
-  reaches-kept : (j : ℕ) (c : Check) (s : State) → (c ≡ Passed → Kept start j (s .course) (s .params)) → Kept start j ((c reaches s) .course) ((c reaches s) .params)
-  reaches-kept j Passed s h = h refl
-  reaches-kept j (Failed r) s h = tt
+  reached-kept : (j : ℕ) (q : MsarParams) (last : Float) (c : Check) (s : State) → (c ≡ Passed → Kept start j (s .course) (s .params))
+      → Kept start j (reached q last c s .course) (reached q last c s .params)
+  reached-kept j q last Passed s h = h refl
+  reached-kept j q last (Failed r) s h = tt
 
   either-kept : (j : ℕ) (b : Bool) (s t : State) → Kept start j (s .course) (s .params) → Kept start j (t .course) (t .params)
       → Kept start j ((if b then s else t) .course) ((if b then s else t) .params)
@@ -86,12 +91,11 @@ module _ (start : MsarParams) where
     unfolding passOf
     pass-kept i q last good =
         let new = stepOf y (rowCount q y) (smoothedRows q y) q in
-        reaches-kept (suc i) (runCheck q y) _ (λ _.
-        reaches-kept (suc i) (Loglike when not (finite (loglikOf q y))) _ (λ _.
+        reached-kept (suc i) q last (runCheck q y before Loglike when not (finite (loglikOf q y))) _ (λ _.
         either-kept (suc i) (stops tol i last (loglikOf q y)) _ _ (good, omega arith)
-        (reaches-kept (suc i) (new .check) _ (λ d.
+        (reached-kept (suc i) q last (new .check) _ (λ d.
         let g = step-good y (rowCount q y) (smoothedRows q y) q d in
-        record { alike = alike-twice (g .alike) (good .alike); checked = g .checked }))))
+        record { alike = alike-twice (g .alike) (good .alike); checked = g .checked })))
 
     onward-kept : (i : ℕ) (s : State) (c : Course) → s .course ≡ c → Kept start i c (s .params) → Kept start (suc i) (onward y tol i s c .course) (onward y tol i s c .params)
     onward-kept i s Going e good = pass-kept i (s .params) (s .loglik) good

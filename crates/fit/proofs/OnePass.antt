@@ -1,21 +1,21 @@
 -- The ways through a pass. Assumes nothing.
-use Prim.Native.Nat.{ℕ, _+_, _-_, _*_, _<_}
+use Prim.Native.Nat.{ℕ, suc, _+_, _-_, _*_, _<_}
 use mathlib.Core.Path.{_≡_, refl, sym, ap, subst, _∙_}
-use mathlib.Core.Bool.{true, false}
+use mathlib.Core.Bool.{Bool, true, false, not}
 use mathlib.Core.List.{List}
 use native.Mathlib.Omega.{arith}
 use native.Mathlib.Numerals.{add-one}
 use lib.ListN.{drop}
 use lib.Ieee.{Float}
 use lib.Ieee.Scale.{finite}
-use Rattle.number.specs.Number.{zero⁺}
+use Rattle.number.specs.Number.{if_then_else_, zero⁺}
+use Rattle.refusal.specs.Checks.{_before_, _when_}
 use Rattle.refusal.specs.declared.Check.{Check}
 use Rattle.refusal.specs.declared.Check.the-variants.{Passed, Failed}
 use Rattle.refusal.specs.declared.Refusal.{Refusal}
 use Rattle.refusal.specs.declared.Refusal.the-variants.{Loglike}
 use Rattle.params.specs.declared.MsarParams.{MsarParams}
 use Rattle.params.specs.declared.Built.{Built}
-use Rattle.params.specs.Built.{nothing}
 use Rattle.rows.specs.Rows.{Same}
 use Rattle.rows.specs.Memory.{predictedFrom, filteredFrom}
 use Rattle.filter.specs.Filter.{predictedRow, filteredRow, rowCount, startShares, runCheck, loglikOf, answerAfter, answerOf}
@@ -27,9 +27,12 @@ use Rattle.model.proofs.Runs.{run-says}
 use Rattle.step.specs.Step.{stepOf}
 use Rattle.step.specs.Ready.{Ready}
 use Rattle.step.proofs.Kept.{step-same}
+use Rattle.fit.specs.declared.Course.{Course}
 use Rattle.fit.specs.declared.Course.the-variants.{Going, Converged, Refused}
 use Rattle.fit.specs.declared.State.{State}
-use Rattle.fit.specs.Fit.{stopped, _reaches_, smoothedRows, stops, passOf}
+use Rattle.fit.specs.declared.Verdict.{Verdict}
+use Rattle.fit.specs.Fit.{smoothedRows, stops, reached, passOf}
+use Rattle.fit.specs.Verdicts.{verdictAfter, verdictOf}
 
 -- ---- what the filter's answer says
 
@@ -42,40 +45,94 @@ module _ (q : MsarParams) (y : List Float) {a : Answer} (answer : a ≡ answerOf
   unfolding answerOf
   loglik-is e = ap (λ (x : Answer). x .loglik) answer ∙ loglik-said (runCheck q y) (loglikOf q y) (sym (ap (λ (x : Answer). x .check) answer) ∙ e)
 
--- ---- the ways
+-- ---- the verdict
 
-module _ (y : List Float) (tol : Float) (i : ℕ) (q : MsarParams) (last : Float) {a : Answer} (answer : a ≡ answerOf q y) {s : State} where
-  pub run-refused : {r : Refusal} → a .check ≡ Failed r → s ≡ stopped r → s ≡ passOf y tol i q last
-  unfolding passOf
+module _ (y : List Float) (tol : Float) (i : ℕ) (q : MsarParams) (last : Float) {a : Answer} (answer : a ≡ answerOf q y) {v : Verdict} where
+  pub run-refused : {r : Refusal} → a .check ≡ Failed r → v ≡ record { course = Refused r; loglik = zero⁺ } → v ≡ verdictOf y tol i q last
+  unfolding verdictOf
   run-refused d e = rw (run-says q y answer d) e
 
-  module _ (passed : a .check ≡ Passed) where
-    pub not-finite : finite (a .loglik) ≡ false → s ≡ stopped Loglike → s ≡ passOf y tol i q last
-    unfolding passOf
-    not-finite d e = rw (run-says q y answer passed, ← loglik-is q y answer passed, d) e
+  pub run-passed : a .check ≡ Passed
+      → v ≡ verdictAfter (Loglike when not (finite (a .loglik))) (record { course = if stops tol i last (a .loglik) then Converged (suc i) else Going; loglik = a .loglik })
+      → v ≡ verdictOf y tol i q last
+  unfolding verdictOf
+  run-passed d e = rw (run-says q y answer d, ← loglik-is q y answer d) e
 
-    module _ (usual : finite (a .loglik) ≡ true) where
-      pub converges : stops tol i last (a .loglik) ≡ true → s ≡ record { course = Converged (i + 1); params = q; loglik = a .loglik } → s ≡ passOf y tol i q last
-      unfolding passOf
-      converges d e = rw (run-says q y answer passed, ← loglik-is q y answer passed, usual, d, ← add-one i) e
+module _ (tol : Float) (i : ℕ) (last loglik : Float) where
+  abbrev Says : Verdict → Type 0
+  Says v = v ≡ verdictAfter (Loglike when not (finite loglik)) (record { course = if stops tol i last loglik then Converged (suc i) else Going; loglik = loglik })
 
-      pub goes-on : {new : Built} → stops tol i last (a .loglik) ≡ false → new ≡ stepOf y (rowCount q y) (smoothedRows q y) q
-          → s ≡ (new .check reaches record { course = Going; params = new .params; loglik = a .loglik }) → s ≡ passOf y tol i q last
-      unfolding passOf
-      goes-on d n e = rw (run-says q y answer passed, ← loglik-is q y answer passed, usual, d, ← n) e
+  pub not-finite : finite loglik ≡ false → Says (record { course = Refused Loglike; loglik = zero⁺ })
+  not-finite d = rw d refl
 
--- a refusal beside zeros
-pub stopped-is : (r : Refusal) {b : Built} → b ≡ record { check = Failed r; params = nothing } → record { course = Refused r; params = b .params; loglik = zero⁺ } ≡ stopped r
-stopped-is r e = ap (λ (x : Built). record { course = Refused r; params = x .params; loglik = zero⁺ }) e
+  module _ (usual : finite loglik ≡ true) where
+    pub converges : stops tol i last loglik ≡ true → Says (record { course = Converged (i + 1); loglik = loglik })
+    converges d = rw (usual, d, ← add-one i) refl
 
--- what a step built, and what a refusal leaves
-module _ {s : State} (new : Built) (loglik : Float) where
-  pub step-refused : {r : Refusal} → new .check ≡ Failed r → s ≡ stopped r → s ≡ (new .check reaches record { course = Going; params = new .params; loglik = loglik })
-  step-refused e d = d ∙ sym (ap (λ (c : Check). c reaches record { course = Going; params = new .params; loglik = loglik }) e)
+    pub goes : stops tol i last loglik ≡ false → Says (record { course = Going; loglik = loglik })
+    goes d = rw (usual, d) refl
 
-  pub step-passed : new .check ≡ Passed → s ≡ record { course = Going; params = new .params; loglik = loglik }
-      → s ≡ (new .check reaches record { course = Going; params = new .params; loglik = loglik })
-  step-passed e d = d ∙ sym (ap (λ (c : Check). c reaches record { course = Going; params = new .params; loglik = loglik }) e)
+-- a refused course is not going
+abbrev At : Type 0 → Course → Type 0
+At A Going = A
+At A (Converged n) = Unit {0}
+At A (Refused r) = Unit {0}
+
+pub never : {A : Type 0} (r : Refusal) → Refused r ≡ Going → A
+never {A} r e = subst (λ (c : Course). At A c) e tt
+
+-- ---- the pass, by its verdict
+
+module _ (q : MsarParams) (last : Float) (i : ℕ) (loglik : Float) (new : Built) where
+  abbrev pass : Check → Bool → State
+  pass c b =
+      reached q last c
+      (if b
+      then record { course = Converged (suc i); params = q; loglik = loglik }
+      else reached q last (new .check) (record { course = Going; params = new .params; loglik = loglik }))
+
+  abbrev said : Check → Bool → Verdict
+  said c b = verdictAfter c (record { course = if b then Converged (suc i) else Going; loglik = loglik })
+
+  by-converged : (c : Check) (b : Bool) {n : ℕ} → said c b .course ≡ Converged n → record { course = Converged n; params = q; loglik = said c b .loglik } ≡ pass c b
+  by-converged (Failed r) b e = cc
+  by-converged Passed true e = rw e refl
+  by-converged Passed false e = cc
+
+  by-refused : (c : Check) (b : Bool) {r : Refusal} → said c b .course ≡ Refused r → record { course = Refused r; params = q; loglik = last } ≡ pass c b
+  by-refused (Failed r) b e = rw e refl
+  by-refused Passed true e = cc
+  by-refused Passed false e = cc
+
+  by-step-refused : (c : Check) (b : Bool) {r : Refusal} → said c b .course ≡ Going → new .check ≡ Failed r
+      → record { course = Refused r; params = q; loglik = last } ≡ pass c b
+  by-step-refused (Failed r) b e d = cc
+  by-step-refused Passed true e d = cc
+  by-step-refused Passed false e d = rw d refl
+
+  by-step : (c : Check) (b : Bool) → said c b .course ≡ Going → new .check ≡ Passed
+      → record { course = Going; params = new .params; loglik = said c b .loglik } ≡ pass c b
+  by-step (Failed r) b e d = cc
+  by-step Passed true e d = cc
+  by-step Passed false e d = rw d refl
+
+module _ (y : List Float) (tol : Float) (i : ℕ) (q : MsarParams) (last : Float) {v : Verdict} (verdict : v ≡ verdictOf y tol i q last) where
+  pub pass-converged : {n : ℕ} → v .course ≡ Converged n → record { course = Converged n; params = q; loglik = v .loglik } ≡ passOf y tol i q last
+  unfolding verdictOf passOf
+  pass-converged {n} e = ap (λ (x : Verdict). record { course = Converged n; params = q; loglik = x .loglik }) verdict ∙ by-converged q last i (loglikOf q y) (stepOf y (rowCount q y) (smoothedRows q y) q) (runCheck q y before Loglike when not (finite (loglikOf q y))) (stops tol i last (loglikOf q y)) (sym (ap (λ (x : Verdict). x .course) verdict) ∙ e)
+
+  pub pass-refused : {r : Refusal} → v .course ≡ Refused r → record { course = Refused r; params = q; loglik = last } ≡ passOf y tol i q last
+  unfolding verdictOf passOf
+  pass-refused e = by-refused q last i (loglikOf q y) (stepOf y (rowCount q y) (smoothedRows q y) q) (runCheck q y before Loglike when not (finite (loglikOf q y))) (stops tol i last (loglikOf q y)) (sym (ap (λ (x : Verdict). x .course) verdict) ∙ e)
+
+  module _ {new : Built} (step : new ≡ stepOf y (rowCount q y) (smoothedRows q y) q) (going : v .course ≡ Going) where
+    pub pass-step-refused : {r : Refusal} → new .check ≡ Failed r → record { course = Refused r; params = q; loglik = last } ≡ passOf y tol i q last
+    unfolding verdictOf passOf
+    pass-step-refused d = by-step-refused q last i (loglikOf q y) (stepOf y (rowCount q y) (smoothedRows q y) q) (runCheck q y before Loglike when not (finite (loglikOf q y))) (stops tol i last (loglikOf q y)) (sym (ap (λ (x : Verdict). x .course) verdict) ∙ going) (sym (ap (λ (x : Built). x .check) step) ∙ d)
+
+    pub pass-stepped : new .check ≡ Passed → record { course = Going; params = new .params; loglik = v .loglik } ≡ passOf y tol i q last
+    unfolding verdictOf passOf
+    pass-stepped d = ap (λ (x : Built). record { course = Going; params = x .params; loglik = v .loglik }) step ∙ ap (λ (x : Verdict). record { course = Going; params = (stepOf y (rowCount q y) (smoothedRows q y) q) .params; loglik = x .loglik }) verdict ∙ by-step q last i (loglikOf q y) (stepOf y (rowCount q y) (smoothedRows q y) q) (runCheck q y before Loglike when not (finite (loglikOf q y))) (stops tol i last (loglikOf q y)) (sym (ap (λ (x : Verdict). x .course) verdict) ∙ going) (sym (ap (λ (x : Built). x .check) step) ∙ d)
 
 -- ---- memory, after the filter and the smoother
 

@@ -6,10 +6,9 @@ use mathlib.Core.List.{List}
 use lib.Ieee.{Float, le}
 use lib.Ieee.Scale.{finite}
 use Rattle.number.specs.Number.{if_then_else_, _<?_, _⊖_, zero⁺}
-use Rattle.refusal.specs.Checks.{_when_}
+use Rattle.refusal.specs.Checks.{_before_, _when_}
 use Rattle.refusal.specs.declared.Check.{Check}
 use Rattle.refusal.specs.declared.Check.the-variants.{Passed, Failed}
-use Rattle.refusal.specs.declared.Refusal.{Refusal}
 use Rattle.refusal.specs.declared.Refusal.the-variants.{Loglike}
 use Rattle.params.specs.declared.MsarParams.{MsarParams}
 use Rattle.params.specs.Built.{tidy, nothing}
@@ -23,16 +22,6 @@ use Rattle.fit.specs.declared.Fitted.{Fitted}
 
 -- ---- one pass
 
--- refused, with nothing else
-abbrev pub stopped : Refusal → State
-stopped r = record { course = Refused r; params = nothing; loglik = zero⁺ }
-
-infixr 30 _reaches_
--- the state after a check that is passed
-abbrev pub _reaches_ : Check → State → State
-_reaches_ Passed next = next
-_reaches_ (Failed r) next = stopped r
-
 -- the smoothed rows at q: row i of n is followed by n - 1 - i rows
 unfoldable pub smoothedRows : MsarParams → List Float → ℕ → List Float
 smoothedRows q y i = smoothedRow q (predictedRow q y (startShares q)) (filteredRow q y (startShares q)) (rowCount q y - 1 - i) i
@@ -41,17 +30,21 @@ smoothedRows q y i = smoothedRow q (predictedRow q y (startShares q)) (filteredR
 unfoldable pub stops : Float → ℕ → Float → Float → Bool
 stops tol i last loglik = 0 <? i && le (loglik ⊖ last) tol
 
+-- what follows a check at q; a refusal keeps q and the log-likelihood of the pass before
+abbrev pub reached : MsarParams → Float → Check → State → State
+reached q last Passed next = next
+reached q last (Failed r) next = record { course = Refused r; params = q; loglik = last }
+
 module _ (y : List Float) (tol : Float) where
   -- pass number i at q; the pass before had the log-likelihood `last`
   unfoldable pub passOf : ℕ → MsarParams → Float → State
   passOf i q last =
       let loglik = loglikOf q y in
       let new = stepOf y (rowCount q y) (smoothedRows q y) q in
-      runCheck q y reaches
-      Loglike when not (finite loglik) reaches
+      reached q last (runCheck q y before Loglike when not (finite loglik))
       (if stops tol i last loglik
       then record { course = Converged (suc i); params = q; loglik = loglik }
-      else (new .check reaches record { course = Going; params = new .params; loglik = loglik }))
+      else reached q last (new .check) (record { course = Going; params = new .params; loglik = loglik }))
 
   -- ---- all passes
 

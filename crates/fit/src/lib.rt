@@ -1,25 +1,31 @@
 // The fit by EM, in lent memory: passes of filter, smoother and step, and a closing pass.
 ghost use mathlib.Core.Path.{_≡_};
-ghost use Prim.Native.Nat.{ℕ, _+_, _*_, _^_, _<_, _≤_};
+ghost use Prim.Native.Nat.{ℕ, suc, _+_, _*_, _^_, _<_, _≤_};
 ghost use lib.ListN.{length, drop};
-ghost use mathlib.Core.Bool.{Bool};
+ghost use mathlib.Core.Bool.{Bool, not};
 ghost use mathlib.Core.List.{List};
 ghost use lib.Ieee.{Float};
+ghost use lib.Ieee.Scale.{finite};
+ghost use Rattle.number.specs.Number.{if_then_else_};
+ghost use Rattle.refusal.specs.Checks.{_when_};
+ghost use Rattle.refusal.specs.declared.Refusal.the-variants.{Loglike};
 ghost use Rattle.refusal.specs.declared.Check.the-variants.{Passed, Failed};
 ghost use Rattle.window.specs.Shape.{Shape};
 ghost use Rattle.params.specs.declared.MsarParams.{MsarParams};
 ghost use Rattle.params.specs.Parameters.{k, p};
 ghost use Rattle.params.specs.Checks.{parameterCheck};
 ghost use Rattle.params.specs.Built.{tidy};
-ghost use Rattle.filter.specs.Steps.{windowsOf};
+ghost use Rattle.filter.specs.Filter.{startShares, answerOf};
+ghost use Rattle.filter.specs.Steps.{windowsOf, Held};
 ghost use Rattle.series.specs.Series.{sampleVariance};
 ghost use Rattle.model.specs.Calls.{cleared, smoothedTable};
 ghost use Rattle.step.specs.Ready.{Ready};
-ghost use Rattle.fit.specs.Fit.{stopped, _reaches_, stops, passOf, passesTo, fittedAfter, closed, fittedOf};
-ghost use Rattle.fit.specs.declared.Course.the-variants.{Going};
+ghost use Rattle.fit.specs.Fit.{stops, passesTo, fittedAfter, fittedOf};
+ghost use Rattle.fit.specs.Verdicts.{verdictAfter, verdictOf};
+ghost use Rattle.fit.specs.declared.Course.the-variants.{Going, Converged};
 ghost use Rattle.fit.specs.Calls.{fitCheck, fittedTable, fitCall};
 use binding::Tables;
-use params::Built;
+use filter::Answer;
 use params::MsarParams;
 use refusal::Check;
 use refusal::Refusal;
@@ -50,19 +56,13 @@ pub struct Fitted {
     pub converged: bool,
 }
 
-// ---- one pass
-
-fn stop(r: Refusal) -> State
-    ensures { λ s. ⌜ s ≡ stopped r ⌝ }
-{
-    let zeros = params::tidy::refused(r);
-    let params = zeros.params;
-    State {
-        course: Course::Refused(r),
-        params,
-        loglik: 0.0,
-    }
+// What a pass says before its step.
+pub struct Verdict {
+    pub course: Course,
+    pub loglik: f64,
 }
+
+// ---- one pass
 
 // From the second pass on.
 fn stops(i: usize, last: f64, loglik: f64, tol: f64) -> bool
@@ -71,65 +71,61 @@ fn stops(i: usize, last: f64, loglik: f64, tol: f64) -> bool
     (0 < i) & (loglik - last <= tol)
 }
 
-// Going on from what a step built.
-fn stepped(new: Built, loglik: f64) -> State
-    ensures { λ s. ⌜ s ≡ (new .check reaches record { course = Going; params = new .params; loglik = loglik }) ⌝ }
+fn verdict_of(loglik: f64, last: f64, i: usize, tol: f64) -> Verdict
+    requires { ⌜ i < 18446744073709551615 ⌝ }
+    ensures { λ v. ⌜ v ≡ verdictAfter (Loglike when not (finite loglik)) (record { course = if stops tol i last loglik then Converged (suc i) else Going; loglik = loglik }) ⌝ }
 {
-    let check = new.check;
-    let params = new.params;
-    match check {
-        Check::Failed(r) => stop(r),
-        Check::Passed => State {
-            course: Course::Going,
-            params,
+    if !number::is_finite(loglik) {
+        return Verdict {
+            course: Course::Refused(Refusal::Loglike),
+            loglik: 0.0,
+        };
+    }
+    if stops(i, last, loglik, tol) {
+        return Verdict {
+            course: Course::Converged(i + 1),
             loglik,
-        },
+        };
+    }
+    Verdict {
+        course: Course::Going,
+        loglik,
     }
 }
 
-// Pass number i at q: n rows of m windows, power = k^order, the floor of the variances. The pass before had the
+// The filter at q for pass number i, and what it says: n rows of m windows, power = k^order. The pass before had the
 // log-likelihood `last`.
-fn one_pass(
+fn judge(
     q: MsarParams,
     last: f64,
     i: usize,
     tol: f64,
     y: &[f64],
-    floor: f64,
     power: usize,
     m: usize,
     n: usize,
     work: &mut [f64],
-) -> State
-    requires { ⌜ Ready q (now y) floor power n (length (now work)) ⌝ }
-    requires { ⌜ (m ≡ windowsOf q) × (0 < n) × (i < 18446744073709551615) ⌝ }
-    ensures state { λ s. ⌜ s ≡ passOf (now (y .entry)) tol i q last ⌝ }
+) -> Verdict
+    requires { ⌜ Shape (k q) (p q) ⌝ }
+    requires { ⌜ (m ≡ windowsOf q) × (power ≡ k q ^ p q) × (p q + n ≡ length (now y)) × (length (now y) ≤ 4096) × (2 * n * m ≤ length (now work)) × (i < 18446744073709551615) ⌝ }
+    ensures verdict { λ v. ⌜ v ≡ verdictOf (now (y .entry)) tol i q last ⌝ }
     ensures rest { λ _. ⌜ (length (now (work .exit)) ≡ length (now (work .entry))) × (drop (2 * n * m) (now (work .exit)) ≡ drop (2 * n * m) (now (work .entry))) ⌝ }
+    ensures rows { λ v. ⌜ (v .course ≡ Going → Held q (now (y .entry)) (startShares q) m n (now (work .exit))) ⌝ }
 {
     let answer = filter::run(q, power, m, y, n, work);
     let check = answer.check;
     if let Check::Failed(r) = check {
-        return stop(r);
-    }
-    let loglik = answer.loglik;
-    if !number::is_finite(loglik) {
-        return stop(Refusal::Loglike);
-    }
-    if stops(i, last, loglik, tol) {
-        return State {
-            course: Course::Converged(i + 1),
-            params: q,
-            loglik,
+        return Verdict {
+            course: Course::Refused(r),
+            loglik: 0.0,
         };
     }
-    smoother::smooth(q, power, n, work);
-    let new = step::step(q, y, floor, power, n, work);
-    stepped(new, loglik)
+    verdict_of(answer.loglik, last, i, tol)
 }
 
 // ---- all passes
 
-// At most `max_iter` of them.
+// At most `max_iter` of them, each with its step. Their parameters stand in one record, since records take room.
 fn passes(
     start: MsarParams,
     max_iter: usize,
@@ -146,26 +142,50 @@ fn passes(
     ensures state { λ s. ⌜ s ≡ passesTo (now (y .entry)) tol start «max_iter» ⌝ }
     ensures rest { λ _. ⌜ (length (now (work .exit)) ≡ length (now (work .entry))) × (drop (2 * n * m) (now (work .exit)) ≡ drop (2 * n * m) (now (work .entry))) ⌝ }
 {
-    let mut s = State {
-        course: Course::Going,
-        params: start,
-        loglik: 0.0,
-    };
+    let mut q = start;
+    let mut last = 0.0;
     let mut i = 0;
     while i < max_iter {
-        let q = s.params;
-        let last = s.loglik;
-        s = one_pass(q, last, i, tol, y, floor, power, m, n, work);
-        let course = s.course;
+        let verdict = judge(q, last, i, tol, y, power, m, n, work);
+        let course = verdict.course;
         match course {
+            Course::Converged(passes) => {
+                return State {
+                    course: Course::Converged(passes),
+                    params: q,
+                    loglik: verdict.loglik,
+                };
+            }
+            Course::Refused(r) => {
+                return State {
+                    course: Course::Refused(r),
+                    params: q,
+                    loglik: last,
+                };
+            }
             Course::Going => {
+                smoother::smooth(q, power, n, work);
+                let new = step::step(q, y, floor, power, n, work);
+                let check = new.check;
+                if let Check::Failed(r) = check {
+                    return State {
+                        course: Course::Refused(r),
+                        params: q,
+                        loglik: last,
+                    };
+                }
+                let params = new.params;
+                q = params;
+                last = verdict.loglik;
                 i += 1;
             }
-            Course::Converged(_) => return s,
-            Course::Refused(_) => return s,
         }
     }
-    s
+    State {
+        course: Course::Going,
+        params: q,
+        loglik: last,
+    }
 }
 
 // ---- the closing pass
@@ -203,18 +223,16 @@ fn answered(q: MsarParams, loglik: f64, iterations: usize, converged: bool) -> F
 // refused.
 fn close(
     q: MsarParams,
-    iterations: usize,
-    converged: bool,
     y: &[f64],
     power: usize,
     m: usize,
     n: usize,
     work: &mut [f64],
     smoothed: &mut [f64],
-) -> Fitted
+) -> Answer
     requires { ⌜ Shape (k q) (p q) ⌝ }
-    requires { ⌜ (m ≡ windowsOf q) × (power ≡ k q ^ p q) × (p q + n ≡ length (now y)) × (length (now y) ≤ 4096) × (3 * (n * m) ≤ length (now work)) × (n * k q ≤ length (now smoothed)) × (0 < n) × (parameterCheck q ≡ Passed) ⌝ }
-    ensures answer { λ a. ⌜ a ≡ closed (now (y .entry)) q iterations converged ⌝ }
+    requires { ⌜ (m ≡ windowsOf q) × (power ≡ k q ^ p q) × (p q + n ≡ length (now y)) × (length (now y) ≤ 4096) × (3 * (n * m) ≤ length (now work)) × (n * k q ≤ length (now smoothed)) × (0 < n) ⌝ }
+    ensures answer { λ a. ⌜ a ≡ answerOf q (now (y .entry)) ⌝ }
     ensures work { λ _. ⌜ now (work .exit) ≡ cleared (3 * (n * m)) (now (work .entry)) ⌝ }
     ensures smoothed { λ _. ⌜ now (smoothed .exit) ≡ smoothedTable q (now (y .entry)) (now (smoothed .entry)) ⌝ }
 {
@@ -225,12 +243,24 @@ fn close(
             smoother::smooth(q, power, n, work);
             rows::tabulate(work, q.means_count, power, m, n, smoothed);
             rows::clear(work, 3 * (n * m));
-            answered(q, answer.loglik, iterations, converged)
+            answer
         }
-        Check::Failed(r) => {
+        Check::Failed(_) => {
             rows::clear(work, 3 * (n * m));
-            refused(r)
+            answer
         }
+    }
+}
+
+// What the closing pass says, with the parameters reached.
+fn ended(answer: Answer, q: MsarParams, iterations: usize, converged: bool) -> Fitted
+    requires { ⌜ parameterCheck q ≡ Passed ⌝ }
+    ensures { λ f. ⌜ f ≡ fittedAfter (answer .check) q (answer .loglik) iterations converged ⌝ }
+{
+    let check = answer.check;
+    match check {
+        Check::Passed => answered(q, answer.loglik, iterations, converged),
+        Check::Failed(r) => refused(r),
     }
 }
 
@@ -259,8 +289,14 @@ fn run_fit(
     let course = s.course;
     let q = s.params;
     match course {
-        Course::Going => close(q, max_iter, false, y, power, m, n, work, smoothed),
-        Course::Converged(i) => close(q, i, true, y, power, m, n, work, smoothed),
+        Course::Going => {
+            let answer = close(q, y, power, m, n, work, smoothed);
+            ended(answer, q, max_iter, false)
+        }
+        Course::Converged(i) => {
+            let answer = close(q, y, power, m, n, work, smoothed);
+            ended(answer, q, i, true)
+        }
         Course::Refused(r) => {
             rows::clear(work, 3 * (n * m));
             refused(r)

@@ -1,4 +1,5 @@
--- document 01's twelve proved examples, as far as their parts stand
+-- document 01's twelve proved examples, and before them the fit of P9
+pub mod ConstantSeries
 pub mod Twelve
 -- ---- demand 3, of the tables that the calls write. In the order to read:
 -- what sums, products, quotients and exponentials of numbers not below zero are

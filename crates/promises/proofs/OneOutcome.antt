@@ -15,6 +15,7 @@ use denote.Triple.Clauses.{Ended, Clauses}
 use Rattle.number.specs.Number.{zero⁺}
 use Rattle.number.proofs.Unique.{one-outcome}
 use Rattle.model.specs.Calls.{Outcome}
+use Rattle.fit.specs.Calls.{FitOutcome}
 use Rattle.number.proofs.pattern as number·pattern
 use Rattle.number.proofs.of_pattern as number·of_pattern
 use Rattle.number.proofs.magnitude as number·magnitude
@@ -70,6 +71,8 @@ use Rattle.counts.proofs.new_transition as counts·new_transition
 use Rattle.means.proofs.new_means as means·new_means
 use Rattle.coefficients.proofs.new_ar as coefficients·new_ar
 use Rattle.variances.proofs.new_variances as variances·new_variances
+use Rattle.step.proofs.step as step·step
+use Rattle.fit.proofs.fit as fit·fit
 use Rattle.promises.specs.OneOutcome.{OneOutcome, OneOutcomeAsked}
 
 -- the logic's own parts, which a contract is stated over: any
@@ -140,6 +143,9 @@ module _ {M : Type 1} (𝓤 : URA M) (H : Heap 𝓤) (A : Atoms 𝓤) (mem : Mem
     pub new-means : One means·new_means.ended (means·new_means.clauses 𝓤 H)
     pub new-ar : One coefficients·new_ar.ended (coefficients·new_ar.clauses 𝓤 H)
     pub new-variances : One variances·new_variances.ended (variances·new_variances.clauses 𝓤 H)
+    -- the step, and the fit
+    pub step : One step·step.ended (step·step.clauses 𝓤 H)
+    pub fit : One fit·fit.ended (fit·fit.clauses 𝓤 H)
 
   -- two facts together
   both : {φ ψ χ : Type 0} → (φ → ψ → χ) → ent 𝓤 (conj 𝓤 (fact 𝓤 φ) (fact 𝓤 ψ)) (fact 𝓤 χ)
@@ -217,4 +223,6 @@ module _ {M : Type 1} (𝓤 : URA M) (H : Heap 𝓤) (A : Atoms 𝓤) (mem : Mem
         new-means = λ κs a g r r′ ws ws′. both (λ e e′. (one-outcome e e′, refl));
         new-ar = λ κs a g r r′ ws ws′. both (λ e e′. (one-outcome e e′, refl));
         new-variances = λ κs a g r r′ ws ws′. both (λ e e′. (one-outcome e e′, refl));
+        step = λ κs a g r r′ ws ws′. both (λ e e′. (one-outcome e e′, refl));
+        fit = λ κs a g r r′ ws ws′. both (λ e e′. let o = e ∙ sym e′ in (ap (λ (x : FitOutcome). x .answer) o, λ i. (tt, (tt, (tt, (tt, (tt, (o i .work, (o i .smoothed, tt)))))))));
       }

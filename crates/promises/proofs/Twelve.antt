@@ -1,7 +1,7 @@
--- Document 01's twelve proved examples, in one list with one theorem; each statement stands with the crate that it is about. Of P9 the
--- two variances stand here; its fit joins with the fit. Assumes nothing.
+-- Document 01's twelve proved examples, in one list with one theorem; each statement stands with the crate that it is about. Assumes nothing.
 use mathlib.Core.Path.{_≡_, ap, _∙_}
 use mathlib.Core.List.{List, [], _∷_}
+use Prim.Native.Nat.{ℕ}
 use lib.Ieee.{Float}
 use Rattle.number.specs.Number.{float, zero⁺, one, half}
 use Rattle.refusal.specs.Refusals.{Said, saying, said}
@@ -25,6 +25,8 @@ use Rattle.rows.specs.Rows.{rowOf}
 use Rattle.prediction.specs.Prediction.{firstPrediction}
 use Rattle.prediction.proofs.Examples as predictions
 use Rattle.filter.specs.Filter.{predictedRow, startShares}
+use Rattle.fit.specs.Calls.{FitOutcome, fitCall}
+use Rattle.promises.proofs.ConstantSeries as constant
 
 -- P5's parameters: two labels, order 1, both columns (0.25, 0.75)
 abbrev even : MsarParams
@@ -50,7 +52,25 @@ abbrev toldOf : Windows → Said
 toldOf (Count m) = saying 0 m zero⁺
 toldOf (Refused r) = said r
 
--- P3, P6 and P10 once more, in these numbers
+-- ---- P9: the variances of its two series, and the fit, whatever passes and tolerance are allowed
+
+pub record P9 : Type 0 where
+  pub sample-variances : variances.Values
+  pub fit : (maxIter : ℕ) (tol : Float) → fitCall constant.spec constant.series constant.params maxIter tol constant.work constant.table ≡ constant.refused
+  -- in numbers: 25, which carries the variance +0
+  pub told-fit : (maxIter : ℕ) (tol : Float)
+      → told (fitCall constant.spec constant.series constant.params maxIter tol constant.work constant.table .answer .check) ≡ saying 25 0 zero⁺
+
+p9 : P9
+p9 =
+    record {
+      sample-variances = variances.values;
+      fit = constant.p9-fit;
+      told-fit = λ maxIter tol. ap (λ (x : FitOutcome). told (x .answer .check)) (constant.p9-fit maxIter tol);
+    }
+
+-- ---- P3, P6 and P10 once more, in these numbers
+
 pub record InNumbers : Type 0 where
   pub two-eight : toldOf (windowCount 2 8) ≡ saying 2 2 zero⁺
   pub seven-two : toldOf (windowCount 7 2) ≡ saying 2 7 zero⁺
@@ -81,7 +101,7 @@ pub record Twelve : Type 0 where
   pub p5 : P5
   pub p5-p7 : predictions.Values
   pub p8 : P8
-  pub p9 : variances.Values
+  pub p9 : P9
   pub p10-p11 : parameters.Values
   pub p12 : P12
   pub p3-p6-p10 : InNumbers
@@ -95,7 +115,7 @@ twelve =
       p5 = p5;
       p5-p7 = predictions.values;
       p8 = p8;
-      p9 = variances.values;
+      p9 = p9;
       p10-p11 = parameters.values;
       p12 = p12;
       p3-p6-p10 = in-numbers;

@@ -1,12 +1,14 @@
 // Answers recorded cases of the model's calls, so that the gate compares them with the answers of the Rust that they were
 // ported from (oracle/model).
-// Standard input: a line is 16 hexadecimal digits. A case has 15 whole numbers: the call (1 loglike, 2 filter, 3 smooth), k,
+// Standard input: a line is 16 hexadecimal digits. A case has 15 whole numbers: the call (1 loglike, 2 filter, 3 smooth, 4 fit), k,
 // the order, two flags, the lengths lent of work memory, filtered and smoothed table, the count of readings, and the six counts
 // of the parameters. Then come the readings, and of transition, means, AR coefficients and variances as many numbers as their
-// count says, but no more than their array holds.
+// count says, but no more than their array holds. A fit ends with two lines more: the passes allowed, and the tolerance.
 // Standard output: for each case a line with the refusal's number (0: answered), place and value, and the log-likelihood; a line
 // with how many places of work memory, from the first on, are +0, and how many places past these were written; then for each
 // table lent the numbers from its first place on that were written, and a line with how many places past these were written.
+// A fit has behind the first line one with iterations and converged (0 or 1), and at the end the fitted numbers, of transition,
+// means, AR coefficients and variances as many as their counts say, and a line with how many other places are not +0.
 // Every NaN is 7ff8000000000000. Or `bad case N`, which ends the run.
 ghost use mathlib.Core.Path.{_≡_};
 ghost use Prim.Native.Nat.{_≤_};
@@ -154,6 +156,38 @@ fn show_table(memory: &Memory) {
     decimal(written_from(memory, n), b'\n');
 }
 
+// Writes a number that is used; of another it gives 1 where it is not +0. Else it gives 0.
+fn show_or_count(x: f64, used: bool) -> usize
+    ensures { λ r. ⌜ r ≤ 1 ⌝ }
+{
+    if used {
+        hex::write(number::pattern(x), b'\n');
+        return 0;
+    }
+    if number::pattern(x) == 0 { 0 } else { 1 }
+}
+
+// Writes the first numbers of a part, as many as its count says, and counts those of the others that are not +0.
+fn show_part(part: &[f64], count: usize) -> usize
+    ensures { λ r. ⌜ r ≤ length (now (part .entry)) ⌝ }
+{
+    let mut others = 0;
+    let mut i = 0;
+    while i < part.len() {
+        others += show_or_count(part[i], i < count);
+        i += 1;
+    }
+    others
+}
+
+fn show_params(q: MsarParams) {
+    let transition = show_part(&q.transition, q.transition_count);
+    let means = show_part(&q.means, q.means_count);
+    let ar = show_part(&q.ar, q.ar_count);
+    let variances = show_part(&q.variances, q.variances_count);
+    decimal(transition + means + ar + variances, b'\n');
+}
+
 fn marked() -> Memory
     ensures { λ r. ⌜ 25600 ≡ length r ⌝ }
 {
@@ -199,6 +233,40 @@ fn smooth(s: MsarSpec, series: &[f64], q: MsarParams, w: usize, f: usize, g: usi
     show_table(&smoothed);
 }
 
+// Reads the passes allowed and the tolerance, and answers; or says that they are missing.
+fn fit(s: MsarSpec, series: &[f64], q: MsarParams, w: usize, g: usize) -> bool
+    requires { ⌜ (w ≤ 25600) × (g ≤ 25600) ⌝ }
+{
+    let Line::Pattern(max_iter) = hex::read() else {
+        return false;
+    };
+    let Line::Pattern(tol) = hex::read() else {
+        return false;
+    };
+    let mut work = marked();
+    let mut smoothed = marked();
+    let a = fit::fit(
+        s,
+        series,
+        q,
+        max_iter as usize,
+        number::of_pattern(tol),
+        &mut work[..w],
+        &mut smoothed[..g],
+    );
+    let check = a.check;
+    show(Answer {
+        check,
+        loglik: a.loglik,
+    });
+    decimal(a.iterations, b' ');
+    decimal(if a.converged { 1 } else { 0 }, b'\n');
+    show_work(&work);
+    show_table(&smoothed);
+    show_params(a.params);
+    true
+}
+
 fn call(which: usize, head: &[u64; 14], series: &[f64], q: MsarParams) -> bool {
     let s = spec_of(head);
     let w = head[4] as usize;
@@ -217,6 +285,9 @@ fn call(which: usize, head: &[u64; 14], series: &[f64], q: MsarParams) -> bool {
         1 => loglike(s, series, q, w),
         2 => filter(s, series, q, w, f),
         3 => smooth(s, series, q, w, f, g),
+        4 => {
+            return fit(s, series, q, w, g);
+        }
         _ => {
             return false;
         }
