@@ -138,8 +138,7 @@ pub extern "C" fn msar_fit(
     let start = given::params_of(counts, numbers);
     let answer = fit::fit(s, series, start, max_iter, tol, work, smoothed);
     let check = answer.check;
-    let params = answer.params;
-    told::lay_out(check, params, fitted);
+    told::lay_out(check, answer.params, fitted);
     told::spell_fit(
         check,
         answer.loglik,

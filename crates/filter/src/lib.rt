@@ -186,8 +186,7 @@ pub fn run(q: MsarParams, power: usize, m: usize, y: &[f64], n: usize, work: &mu
     ensures same { λ _. ⌜ (length (now (work .exit)) ≡ length (now (work .entry))) × (drop (2 * n * m) (now (work .exit)) ≡ drop (2 * n * m) (now (work .entry))) ⌝ }
     ensures rows { λ r. ⌜ (r .check ≡ Passed → Held q (now (y .entry)) (startShares q) m n (now (work .exit))) ⌝ }
 {
-    let transition = q.transition;
-    let shares = stationary::solved_shares(transition, q.means_count);
+    let shares = stationary::solved_shares(&q.transition, q.means_count);
     let check = shares.check;
     if let Check::Failed(r) = check {
         return refused(r);

@@ -287,15 +287,14 @@ fn run_fit(
 {
     let s = passes(start, max_iter, tol, y, floor, power, m, n, work);
     let course = s.course;
-    let q = s.params;
     match course {
         Course::Going => {
-            let answer = close(q, y, power, m, n, work, smoothed);
-            ended(answer, q, max_iter, false)
+            let answer = close(s.params, y, power, m, n, work, smoothed);
+            ended(answer, s.params, max_iter, false)
         }
         Course::Converged(i) => {
-            let answer = close(q, y, power, m, n, work, smoothed);
-            ended(answer, q, i, true)
+            let answer = close(s.params, y, power, m, n, work, smoothed);
+            ended(answer, s.params, i, true)
         }
         Course::Refused(r) => {
             rows::clear(work, 3 * (n * m));

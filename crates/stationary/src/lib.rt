@@ -86,11 +86,11 @@ fn check_shares(x: &[f64; 16], n: usize) -> Check
 }
 
 // The shares of n regimes with a transition table that passed the checks.
-pub fn solved_shares(transition: [f64; 256], n: usize) -> Shares
+pub fn solved_shares(transition: &[f64; 256], n: usize) -> Shares
     requires { ⌜ (n ≤ 16) × (0 < n) ⌝ }
-    ensures { λ r. ⌜ r ≡ solvedShares n transition ⌝ }
+    ensures { λ r. ⌜ r ≡ solvedShares n (now (transition .entry)) ⌝ }
 {
-    let a = table_of(&transition, n);
+    let a = table_of(transition, n);
     let b = sides_of(n);
     let s = linsolve::solve(a, b, n);
     let outcome = s.outcome;
@@ -127,6 +127,5 @@ pub fn stationary_shares(q: MsarParams) -> Shares
         Check::Passed => {}
         Check::Failed(r) => return none(r),
     }
-    let transition = q.transition;
-    solved_shares(transition, q.means_count)
+    solved_shares(&q.transition, q.means_count)
 }

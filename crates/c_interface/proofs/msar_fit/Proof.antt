@@ -31,7 +31,7 @@ same-length-2 c = search needs
 
 -- src/lib.rt:113:1
 returns : tie.Need-returns
-returns c = fit-leaves _ (rw (c .before .before .before .before .before .before .before .before .before .before .before .before .before .params-of .ensures) at (c .before .before .before .before .before .before .before .before .before .before .fit .ensures)) (c .before .before .before .lay-out .ensures) (c .spell-fit .ensures (c .before .before .before .before .before .before .before .before .before .before .fit .result) refl refl refl)
+returns c = fit-leaves _ (rw (c .before .before .before .before .before .before .before .before .before .before .before .before .params-of .ensures) at (c .before .before .before .before .before .before .before .before .before .fit .ensures)) (c .before .before .before .lay-out .ensures) (c .spell-fit .ensures (c .before .before .before .before .before .before .before .before .before .fit .result) refl refl refl)
 
 pub msar-fit-spec : {M : Type 1} → statement M
 msar-fit-spec =

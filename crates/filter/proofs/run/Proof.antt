@@ -17,15 +17,15 @@ use Rattle.prediction.proofs.steps.Reads as steps-reads
 use Rattle.stationary.proofs.solved_shares.Reads as solved-shares-reads
 use Rattle.window.proofs.powers.Reads as powers-reads
 
-positive : (c : tie.Start) → 0 < c .args .q .«means_count»
+positive : (c : tie.Start) → 0 < c .args .t1 .«means_count»
 positive c = omega (arith, c .pre .0 .low)
 
-order-small : (c : tie.Start) → c .args .q .order ≤ 7
+order-small : (c : tie.Start) → c .args .t1 .order ≤ 7
 order-small c = order-at-most-7 _ _ (c .pre .0 .low) (c .pre .0 .few)
 
 -- the windows are at least as many as the regimes, and at most 256
-enough : (c : tie.Start) → (c .args .q .«means_count» ≤ c .args .m) × (c .args .m ≤ 256)
-enough c = (rw (c .pre .1 .0) (regimes-within (c .args .q .«means_count») (c .args .q .order) (positive c)), rw (c .pre .1 .0) (c .pre .0 .few))
+enough : (c : tie.Start) → (c .args .t1 .«means_count» ≤ c .args .m) × (c .args .m ≤ 256)
+enough c = (rw (c .pre .1 .0) (regimes-within (c .args .t1 .«means_count») (c .args .t1 .order) (positive c)), rw (c .pre .1 .0) (c .pre .0 .few))
 
 solved-shares-requires : tie.Need-solved-shares-requires
 solved-shares-requires c κs = search needs
@@ -38,7 +38,7 @@ refused-requires c κs = search needs
 
 returns : tie.Need-returns
 returns c =
-    let e = run-refused (c .before .before .before .before .before .before .before .before .args .q) (c .before .before .before .before .before .before .before .before .args .y .now) (c .before .before .before .before .solved-shares .ensures) zero⁺ (c .before .before .check .given .1) (c .refused .ensures zero⁺) in
+    let e = run-refused (c .before .before .before .before .before .before .before .before .before .args .t1) (c .before .before .before .before .before .before .before .before .before .args .y .now) (c .before .before .before .before .solved-shares .ensures) zero⁺ (c .before .before .check .given .1) (c .refused .ensures zero⁺) in
     (e, ((refl, refl), λ d. absurd (refusal-stays zero⁺ (c .refused .ensures zero⁺) d)))
 
 enum-told : tie.Need-enum-told
@@ -48,29 +48,29 @@ powers-requires : tie.Need-powers-requires
 powers-requires c κs = search needs
 
 phis-requires : tie.Need-phis-requires
-phis-requires c κs = (positive (c .before .before .before .before .before .before .before .before), c .before .before .before .before .before .before .before .before .pre .0 .high, order-small (c .before .before .before .before .before .before .before .before))
+phis-requires c κs = (positive (c .before .before .before .before .before .before .before .before .before), c .before .before .before .before .before .before .before .before .before .pre .0 .high, order-small (c .before .before .before .before .before .before .before .before .before))
 
 deviations-requires : tie.Need-deviations-requires
-deviations-requires c κs = (positive (c .before .before .before .before .before .before .before .before .before), c .before .before .before .before .before .before .before .before .before .pre .0 .high, enough (c .before .before .before .before .before .before .before .before .before) .0, enough (c .before .before .before .before .before .before .before .before .before) .1)
+deviations-requires c κs = (positive (c .before .before .before .before .before .before .before .before .before .before), c .before .before .before .before .before .before .before .before .before .before .pre .0 .high, enough (c .before .before .before .before .before .before .before .before .before .before) .0, enough (c .before .before .before .before .before .before .before .before .before .before) .1)
 
 logarithms-requires : tie.Need-logarithms-requires
-logarithms-requires c κs = (positive (c .before .before .before .before .before .before .before .before .before .before .before), c .before .before .before .before .before .before .before .before .before .before .before .pre .0 .high, enough (c .before .before .before .before .before .before .before .before .before .before .before) .0, enough (c .before .before .before .before .before .before .before .before .before .before .before) .1)
+logarithms-requires c κs = (positive (c .before .before .before .before .before .before .before .before .before .before .before .before), c .before .before .before .before .before .before .before .before .before .before .before .before .pre .0 .high, enough (c .before .before .before .before .before .before .before .before .before .before .before .before) .0, enough (c .before .before .before .before .before .before .before .before .before .before .before .before) .1)
 
 steps-requires : tie.Need-steps-requires
 steps-requires c κs = search needs
 
 each-row-requires : tie.Need-each-row-requires
 each-row-requires c κs =
-    let start = c .before .before .before .before .before .before .before .before .before .before .before .before .before .before .before .before .before .before .before .before in (
+    let start = c .before .before .before .before .before .before .before .before .before .before .before .before .before .before .before .before .before .before .before .before .before in (
       start .pre .0,
       (
-        (start .pre .1 .0, counted (start .args .q .«means_count») (start .args .q .order) (start .pre .1 .0) (start .pre .1 .1), start .pre .1 .1, start .pre .1 .2, start .pre .1 .3, start .pre .1 .4),
+        (start .pre .1 .0, counted (start .args .t1 .«means_count») (start .args .t1 .order) (start .pre .1 .0) (start .pre .1 .1), start .pre .1 .1, start .pre .1 .2, start .pre .1 .3, start .pre .1 .4),
         (
           (c .before .before .before .before .before .before .before .before .before .before .before .before .powers .ensures, c .before .before .before .before .before .before .before .steps .ensures),
           record {
             parts = record { count-is = refl; order-is = refl; means-are = refl; phis-are = sym (c .before .before .before .before .before .before .before .before .before .before .before .phis .ensures) };
             deviations-are = c .before .before .before .before .before .before .before .before .before .before .deviations .ensures;
-            logarithms-are = c .before .before .before .before .before .before .before .before .logarithms .ensures (start .args .q) refl (c .before .before .before .before .before .before .before .before .before .before .deviations .ensures);
+            logarithms-are = c .before .before .before .before .before .before .before .before .logarithms .ensures (start .args .t1) refl (c .before .before .before .before .before .before .before .before .before .before .deviations .ensures);
           },
         ),
       ),
@@ -81,11 +81,11 @@ same-length c = search needs
 
 returns-2 : tie.Need-returns-2
 returns-2 c =
-    let start = c .before .before .before .before .before .before .before .before .before .before .before .before .before .before .before .before .before .before .before .before .before .before .before in
+    let start = c .before .before .before .before .before .before .before .before .before .before .before .before .before .before .before .before .before .before .before .before .before .before .before .before in
     let shares = c .before .before .before .before .before .before .before .before .before .before .before .before .before .before .before .before .before .before .before .solved-shares .ensures in
     let done = c .before .before .each-row .ensures in (
-      run-passed (start .args .q) _ shares _ (start .pre .1 .2) (c .before .before .before .before .before .before .before .before .before .before .before .before .before .before .before .before .before .enum-told .given .1) (done .0),
-      (done .1 .0, λ e. held-from-start (start .args .q) _ shares (done .1 .1 e)),
+      run-passed (start .args .t1) _ shares _ (start .pre .1 .2) (c .before .before .before .before .before .before .before .before .before .before .before .before .before .before .before .before .before .enum-told .given .1) (done .0),
+      (done .1 .0, λ e. held-from-start (start .args .t1) _ shares (done .1 .1 e)),
     )
 
 pub run-spec : {M : Type 1} → statement M

@@ -18,13 +18,13 @@ none-requires : tie.Need-none-requires
 none-requires c κs = search needs
 
 returns : tie.Need-returns
-returns c = c .none .ensures ∙ shares-refused (c .before .before .before .before .before .args .q) (sym (c .before .before .before .before .check .ensures) ∙ c .before .before .r .given .1)
+returns c = c .none .ensures ∙ shares-refused (c .before .before .before .before .before .args .t1) (sym (c .before .before .before .before .check .ensures) ∙ c .before .before .r .given .1)
 
 solved-shares-requires : tie.Need-solved-shares-requires
-solved-shares-requires c κs = let h = counted (c .before .before .before .before .args .q) (sym (c .before .before .before .check .ensures) ∙ c .before .enum-told .given .1) in (h .within, omega arith)
+solved-shares-requires c κs = let h = counted (c .before .before .before .before .before .args .t1) (sym (c .before .before .before .before .check .ensures) ∙ c .before .before .enum-told .given .1) in (h .within, omega arith)
 
 returns-2 : tie.Need-returns-2
-returns-2 c = c .solved-shares .ensures ∙ shares-solved (c .before .before .before .before .before .args .q) (sym (c .before .before .before .before .check .ensures) ∙ c .before .before .enum-told .given .1)
+returns-2 c = c .solved-shares .ensures ∙ shares-solved (c .before .before .before .before .before .before .args .t1) (sym (c .before .before .before .before .before .check .ensures) ∙ c .before .before .before .enum-told .given .1)
 
 pub stationary-shares-spec : {M : Type 1} → statement M
 stationary-shares-spec =

@@ -1,0 +1,42 @@
+use Rattle.fit.proofs.Ends.{ended-passed, ended-by-refusal}
+use Prim.Native.Nat.{ℕ, zero, suc, _+_, _*_, _-_, _/_, _%_, _^_, _<_, _≤_}
+use mathlib.Core.Path.{_≡_, refl, sym, ap, subst, _∙_}
+use mathlib.Core.List.{List, [], _∷_, _++_}
+use native.Mathlib.Omega.{arith}
+use borrow.Author.Needs.{needs, scaled-fits}
+use lib.ListN.{length, getD, set, replicate, take, drop}
+use Rattle.fit.proofs.ended.Statement.{statement}
+use Rattle.fit.proofs.ended.Tie as tie
+use Rattle.fit.proofs.ended.Reads as reads
+use Rattle.fit.proofs.ended.Lts as lts
+use Rattle.fit.proofs.answered.Reads as answered-reads
+use Rattle.fit.proofs.refused.Reads as refused-reads
+
+-- src/lib.rt:262:26
+enum-told : tie.Need-enum-told
+enum-told c = search needs
+
+-- src/lib.rt:262:26
+answered-requires : tie.Need-answered-requires
+answered-requires c κs = c .before .before .pre
+
+-- src/lib.rt:263:23
+enum-known-check : tie.Need-enum-known-check
+enum-known-check c = search needs
+
+-- src/lib.rt:263:29
+refused-requires : tie.Need-refused-requires
+refused-requires c κs = search needs
+
+-- src/lib.rt:256:1
+returns : tie.Need-returns
+returns c = ended-passed (c .before .before .before .args .answer) _ _ _ (c .before .enum-told .given .1) (c .answered .ensures)
+
+-- src/lib.rt:256:1
+returns-2 : tie.Need-returns-2
+returns-2 c = let a = c .before .before .before .before .args in ended-by-refusal (a .answer) (a .q) (a .iterations) (a .converged) (c .before .before .check .given .1) (c .refused .ensures (a .q) (a .answer .loglik) (a .iterations) (a .converged))
+
+pub ended-spec : {M : Type 1} → statement M
+ended-spec =
+    tie.close
+    (tie.spec enum-told answered-requires enum-known-check refused-requires returns returns-2)

@@ -1,0 +1,42 @@
+use Rattle.fit.proofs.OnePass.{not-finite, converges, goes}
+use borrow.Author.Tests.{not-true, not-false}
+use Prim.Native.Nat.{ℕ, zero, suc, _+_, _*_, _-_, _/_, _%_, _^_, _<_, _≤_}
+use mathlib.Core.Path.{_≡_, refl, sym, ap, subst, _∙_}
+use mathlib.Core.List.{List, [], _∷_, _++_}
+use native.Mathlib.Omega.{arith}
+use borrow.Author.Needs.{needs, scaled-fits}
+use lib.ListN.{length, getD, set, replicate, take, drop}
+use Rattle.fit.proofs.verdict_of.Statement.{statement}
+use Rattle.fit.proofs.verdict_of.Tie as tie
+use Rattle.fit.proofs.verdict_of.Reads as reads
+use Rattle.fit.proofs.verdict_of.Lts as lts
+use Rattle.fit.proofs.stops.Reads as stops-reads
+use Rattle.number.proofs.is_finite.Reads as is-finite-reads
+
+-- src/lib.rt:78:9
+is-finite-requires : tie.Need-is-finite-requires
+is-finite-requires c κs = search needs
+
+-- src/lib.rt:79:9
+returns : tie.Need-returns
+returns c = let a = c .before .before .args in not-finite (a .tol) (a .i) (a .last) (a .loglik) (sym (c .before .is-finite .ensures) ∙ not-true _ (c .if1 .taken))
+
+-- src/lib.rt:84:8
+stops-requires : tie.Need-stops-requires
+stops-requires c κs = search needs
+
+-- src/lib.rt:86:39
+add-t10 : tie.Need-add-t10
+add-t10 c = search needs
+
+-- src/lib.rt:85:9
+returns-2 : tie.Need-returns-2
+returns-2 c = let a = c .before .before .before .before .args in converges (a .tol) (a .i) (a .last) (a .loglik) (sym (c .before .before .before .is-finite .ensures) ∙ not-false _ (c .before .before .if1 .left)) (sym (c .before .stops .ensures) ∙ c .if2 .taken)
+
+-- src/lib.rt:74:1
+returns-3 : tie.Need-returns-3
+returns-3 c = let a = c .before .before .before .before .args in goes (a .tol) (a .i) (a .last) (a .loglik) (sym (c .before .before .before .is-finite .ensures) ∙ not-false _ (c .before .before .if1 .left)) (sym (c .before .stops .ensures) ∙ c .if2 .left)
+
+pub verdict-of-spec : {M : Type 1} → statement M
+verdict-of-spec =
+    tie.close (tie.spec is-finite-requires returns stops-requires add-t10 returns-2 returns-3)
