@@ -3,7 +3,7 @@
 ghost use mathlib.Core.Path.{_≡_};
 ghost use Prim.Native.Nat.{_≤_};
 ghost use lib.ListN.{length};
-ghost use Rattle.text.specs.Places.{Inside};
+ghost use Rattle.text.specs.Places.{Inside, Leads};
 
 // From `start` up to, not including, `end`.
 pub struct Span {
@@ -216,7 +216,7 @@ fn least(a: usize, b: usize) -> usize
 
 // Puts the text behind the first `at` bytes, as far as there is room, and says how many bytes there are then.
 pub fn put(out: &mut [u8], at: usize, text: &[u8]) -> usize
-    ensures { λ r. ⌜ r ≤ length (now (out .exit)) ⌝ }
+    ensures { λ r. ⌜ Leads r (now (out .exit)) ⌝ }
 {
     let mut to = least(at, out.len());
     let mut i = 0;
@@ -225,6 +225,24 @@ pub fn put(out: &mut [u8], at: usize, text: &[u8]) -> usize
             return to;
         }
         out[to] = text[i];
+        to += 1;
+        i += 1;
+    }
+    to
+}
+
+// The same for the first n bytes of a piece by value.
+pub fn put_piece(out: &mut [u8], at: usize, piece: [u8; 32], n: usize) -> usize
+    requires { ⌜ n ≤ 32 ⌝ }
+    ensures { λ r. ⌜ Leads r (now (out .exit)) ⌝ }
+{
+    let mut to = least(at, out.len());
+    let mut i = 0;
+    while i < n {
+        if to >= out.len() {
+            return to;
+        }
+        out[to] = piece[i];
         to += 1;
         i += 1;
     }
