@@ -13,7 +13,7 @@ use Rattle.spec.specs.declared.MsarSpec.{MsarSpec}
 use Rattle.window.specs.Shape.{Shape}
 use Rattle.params.specs.declared.MsarParams.{MsarParams}
 use Rattle.params.specs.Parameters.{k, p}
-use Rattle.binding.specs.Binding.{boundCheck, boundAfter, workNeed, tableNeed, memoryCheck, tablesCheck, admittedCheck, admitted}
+use Rattle.binding.specs.Binding.{boundCheck, boundAfter, workNeed, tableNeed, memoryCheck, tablesCheck, paramsCheck, admittedCheck, admitted}
 use Rattle.binding.specs.declared.Bound.{Bound}
 use Rattle.binding.specs.declared.Tables.{Tables}
 use Rattle.binding.proofs.Passed.{fits, same-shape}
@@ -29,6 +29,7 @@ pub record Admitted (S : MsarSpec) (y : List Float) (q : MsarParams) (lent : ℕ
   pub need-is : 3 * (b .rows * b .windows) ≡ workNeed S y
   pub work-fits : 3 * (b .rows * b .windows) ≤ lent
   pub tables-fit : tablesCheck tables (b .rows * k q) ≡ Passed
+  pub params-pass : paramsCheck S q ≡ Passed
 
 -- memory that is lent and long enough
 pub long-enough : (lent needed : ℕ) → memoryCheck lent needed ≡ Passed → needed ≤ lent
@@ -65,4 +66,5 @@ module _ (S : MsarSpec) (y : List Float) (q : MsarParams) (lent : ℕ) (tables :
         need-is = need;
         work-fits = subst (λ (x : ℕ). x ≤ lent) (sym need) (long-enough lent (workNeed S y) (c₂ .0));
         tables-fit = subst (λ (x : ℕ). tablesCheck tables x ≡ Passed) (ap (λ (x : ℕ). x * S .«k_regimes») (sym n) ∙ ap (λ (x : ℕ). b .rows * x) (sym (s .0))) (c₃ .0);
+        params-pass = c₃ .1;
       }

@@ -18,6 +18,7 @@ pub record Within (q : MsarParams) : Type 0 where
   pub transition : q .«transition_count» ≤ 256
   pub square : q .«transition_count» ≡ k q * k q
   pub means : q .«means_count» ≤ 16
+  pub blocks : q .«ar_blocks» ≤ 16
   pub ar : q .«ar_count» ≤ 112
   pub variances : q .«variances_count» ≤ 16
 
@@ -45,6 +46,7 @@ within q e =
       transition = rw square (mul-le-mul regimes regimes);
       square = square;
       means = regimes;
+      blocks = blocks;
       ar = rw coefficients (mul-le-mul blocks order);
       variances = at-most _ _ refl (untrue _ _ (c₁₂ .0)) regimes;
     }

@@ -11,7 +11,7 @@ use refusal::first_of;
 use spec::MsarSpec;
 
 mod checks;
-mod tidy;
+pub mod tidy;
 
 // As a caller hands them in: arrays of which as many places are used as the counts say. k is the count of means. AR
 // coefficients come in blocks of `order`; they switch with the regime exactly where there is not one block, and so the

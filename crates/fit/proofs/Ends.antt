@@ -1,0 +1,183 @@
+-- How a fit ends: the closing pass, and the outcome of the call. Assumes nothing.
+use Prim.Native.Nat.{ℕ, zero, suc, _+_, _*_, _^_, _<_, _≤_}
+use mathlib.Core.Path.{_≡_, refl, sym, ap, subst, _∙_}
+use mathlib.Core.Bool.{Bool, true, false}
+use mathlib.Core.List.{List}
+use native.Mathlib.Omega.{arith}
+use borrow.Author.Tests.{eqb-false}
+use lib.ListN.{length}
+use lib.Ieee.{Float}
+use Rattle.number.specs.Number.{_=?_, _⊗_, zero⁺, usable}
+use Rattle.refusal.specs.declared.Check.{Check}
+use Rattle.refusal.specs.declared.Check.the-variants.{Passed, Failed}
+use Rattle.refusal.specs.declared.Refusal.{Refusal}
+use Rattle.refusal.specs.declared.Refusal.the-variants.{OrderZero, SampleVariance}
+use Rattle.spec.specs.declared.MsarSpec.{MsarSpec}
+use Rattle.window.specs.Shape.{Shape}
+use Rattle.params.specs.declared.MsarParams.{MsarParams}
+use Rattle.params.specs.Parameters.{k, p}
+use Rattle.params.specs.declared.Built.{Built}
+use Rattle.params.specs.Checks.{parameterCheck}
+use Rattle.params.specs.Built.{tidy, nothing}
+use Rattle.params.proofs.Within.{within}
+use Rattle.refusal.specs.Checks.{_when_}
+use Rattle.refusal.proofs.Checks.{both, untrue}
+use Rattle.binding.specs.Binding.{workNeed, paramsCheck, admittedCheck}
+use Rattle.binding.specs.declared.Bound.{Bound}
+use Rattle.binding.specs.declared.Tables.the-variants.{One}
+use Rattle.series.specs.Series.{sampleVariance}
+use Rattle.ridge.specs.Ridge.{small}
+use Rattle.filter.specs.Filter.{runCheck, loglikOf, answerOf}
+use Rattle.filter.specs.Steps.{windowsOf}
+use Rattle.filter.specs.declared.Answer.{Answer}
+use Rattle.model.specs.Calls.{cleared, smoothedTable}
+use Rattle.model.proofs.Runs.{rows-fit, run-says}
+use Rattle.model.proofs.Admitted.{Admitted, long-enough}
+use Rattle.step.specs.Ready.{Ready}
+use Rattle.step.proofs.Kept.{Alike, Good, windows-alike, still-ready}
+use Rattle.fit.specs.declared.Course.the-variants.{Going, Converged, Refused}
+use Rattle.fit.specs.declared.State.{State}
+use Rattle.fit.specs.declared.Fitted.{Fitted}
+use Rattle.fit.specs.Fit.{passesTo, fittedAfter, closed, fittedOf}
+use Rattle.fit.specs.Calls.{fitCheck, fittedTable, fitCall}
+use Rattle.fit.proofs.OnePass.{loglik-is}
+
+-- ---- the closing pass
+
+module _ (y : List Float) (q : MsarParams) (i : ℕ) (c : Bool) {a : Answer} (answer : a ≡ answerOf q y) {f : Fitted} where
+  pub closing-refused : {r : Refusal} → a .check ≡ Failed r → f ≡ fittedAfter (Failed r) q zero⁺ i c → f ≡ closed y q i c
+  unfolding closed
+  closing-refused d e = rw (run-says q y answer d) e
+
+  pub closing-passed : a .check ≡ Passed → f ≡ fittedAfter Passed q (a .loglik) i c → f ≡ closed y q i c
+  unfolding closed
+  closing-passed d e = rw (run-says q y answer d, ← loglik-is q y answer d) e
+
+-- a refusal beside zeros
+pub refused-is : (r : Refusal) {b : Built} (q : MsarParams) (loglik : Float) (i : ℕ) (c : Bool) → b ≡ record { check = Failed r; params = nothing }
+    → record { check = Failed r; params = b .params; loglik = zero⁺; iterations = 0; converged = false } ≡ fittedAfter (Failed r) q loglik i c
+refused-is r q loglik i c e = ap (λ (x : Built). record { check = Failed r; params = x .params; loglik = zero⁺; iterations = 0; converged = false }) e
+
+-- the parameters reached, tidied
+pub answered-is : (q : MsarParams) {b : Built} (loglik : Float) (i : ℕ) (c : Bool) → b ≡ record { check = Passed; params = tidy q }
+    → record { check = Passed; params = b .params; loglik = loglik; iterations = i; converged = c } ≡ fittedAfter Passed q loglik i c
+answered-is q loglik i c e = ap (λ (x : Built). record { check = Passed; params = x .params; loglik = loglik; iterations = i; converged = c }) e
+
+-- what the closing pass is handed
+pub record Closing (q : MsarParams) (y : List Float) (power m n lent room : ℕ) : Type 0 where
+  pub shape : Shape (k q) (p q)
+  pub windows-are : m ≡ windowsOf q
+  pub power-is : power ≡ k q ^ p q
+  pub rows-are : p q + n ≡ length y
+  pub short : length y ≤ 4096
+  pub work-fits : 3 * (n * m) ≤ lent
+  pub table-fits : n * k q ≤ room
+
+pub closing-ready : {q start : MsarParams} {y : List Float} {floor : Float} {power m n lent lent′ room : ℕ} → Alike q start → Ready start y floor power n lent
+    → m ≡ windowsOf start → 3 * (n * m) ≤ lent → n * k start ≤ room → lent′ ≡ lent → Closing q y power m n lent′ room
+closing-ready {q} {start} {n = n} {room = room} a ready windows work table e =
+    let r = still-ready a ready in
+    record {
+      shape = r .shape;
+      windows-are = windows ∙ sym (windows-alike a);
+      power-is = r .power-is;
+      rows-are = r .rows-are;
+      short = r .short;
+      work-fits = omega (arith, work, e);
+      table-fits = subst (λ (x : ℕ). n * x ≤ room) (sym (a .labels)) table;
+    }
+
+-- ---- where the passes ended
+
+module _ (y : List Float) (tol : Float) (max : ℕ) (start : MsarParams) {s : State} (e : s ≡ passesTo y tol start max) where
+  module _ {f : Fitted} where
+    pub ended-going : s .course ≡ Going → f ≡ closed y (s .params) max false → f ≡ fittedOf y tol max start
+    unfolding fittedOf
+    ended-going g d = rw (← e, g) d
+
+    pub ended-converged : {n : ℕ} → s .course ≡ Converged n → f ≡ closed y (s .params) n true → f ≡ fittedOf y tol max start
+    unfolding fittedOf
+    ended-converged g d = rw (← e, g) d
+
+    pub ended-refused : {r : Refusal} → s .course ≡ Refused r → f ≡ fittedAfter (Failed r) start zero⁺ 0 false → f ≡ fittedOf y tol max start
+    unfolding fittedOf
+    ended-refused g d = rw (← e, g) d
+
+  module _ (found : List Float) where
+    pub table-going : {t : List Float} → s .course ≡ Going → t ≡ smoothedTable (s .params) y found → t ≡ fittedTable y tol max start found
+    unfolding fittedTable
+    table-going g d = rw (← e, g) d
+
+    pub table-converged : {t : List Float} {n : ℕ} → s .course ≡ Converged n → t ≡ smoothedTable (s .params) y found → t ≡ fittedTable y tol max start found
+    unfolding fittedTable
+    table-converged g d = rw (← e, g) d
+
+    pub table-refused : {r : Refusal} → s .course ≡ Refused r → found ≡ fittedTable y tol max start found
+    unfolding fittedTable
+    table-refused g = rw (← e, g) refl
+
+-- ---- 24 and 25
+
+module _ (q : MsarParams) (y : List Float) {order : ℕ} {variance : Float} (o : p q ≡ order) (v : sampleVariance y ≡ variance) where
+  pub order-zero : (order =? 0) ≡ true → Failed OrderZero ≡ fitCheck q y
+  unfolding fitCheck
+  order-zero e = let z : (p q =? 0) ≡ true = ap (λ (x : ℕ). x =? 0) o ∙ e in rw z refl
+
+  module _ (some : (order =? 0) ≡ false) where
+    pub no-variance : usable variance ≡ false → Failed (SampleVariance variance) ≡ fitCheck q y
+    unfolding fitCheck
+    no-variance e = let z : (p q =? 0) ≡ false = ap (λ (x : ℕ). x =? 0) o ∙ some in rw (z, v, e) refl
+
+    pub a-variance : usable variance ≡ true → Passed ≡ fitCheck q y
+    unfolding fitCheck
+    a-variance e = let z : (p q =? 0) ≡ false = ap (λ (x : ℕ). x =? 0) o ∙ some in rw (z, v, e) refl
+
+pub has-lags : (q : MsarParams) (y : List Float) → fitCheck q y ≡ Passed → 0 < p q
+unfolding fitCheck
+has-lags q y e = go (p q) (eqb-false _ _ (untrue _ _ (both (OrderZero when p q =? 0) e .0)))
+  where
+    go : (n : ℕ) → (n ≡ 0 → ⊥) → 0 < n
+    go zero h = absurd (h refl)
+    go (suc n) h = omega arith
+
+pub params-checked : {S : MsarSpec} {y : List Float} {q : MsarParams} {lent room : ℕ} {b : Bound} → Admitted S y q lent (One room) b → parameterCheck q ≡ Passed
+unfolding paramsCheck
+params-checked {q = q} a = both (parameterCheck q) (a .params-pass) .0
+
+-- what the passes are handed, by a call that was admitted and passed 24 and 25
+pub fit-ready : {S : MsarSpec} {y : List Float} {q : MsarParams} {lent room : ℕ} {b : Bound} {floor : Float} → Admitted S y q lent (One room) b → fitCheck q y ≡ Passed
+    → floor ≡ small ⊗ sampleVariance y → Ready q y floor (b .power) (b .rows) lent
+fit-ready {q = q} {lent} {b = b} a e f =
+    let w = within q (params-checked a) in
+    let f₂ = rows-fit (b .rows) (b .windows) in
+    record {
+      shape = a .shape;
+      floor-is = f;
+      lagged = has-lags q _ e;
+      power-is = a .power-is;
+      rows-are = a .rows-are;
+      short = a .short;
+      fits = subst (λ (x : ℕ). 2 * b .rows * x ≤ lent) (a .windows-are) (omega (arith, f₂, a .work-fits));
+      blocks = w .blocks;
+      variances = w .variances;
+    }
+
+-- ---- the outcome of the call
+
+module _ (S : MsarSpec) (y : List Float) (start : MsarParams) (max : ℕ) (tol : Float) (work smoothed : List Float) {a : Fitted} where
+  module _ {r : Refusal} (refused : a ≡ fittedAfter (Failed r) start zero⁺ 0 false) where
+    pub fit-refused : admittedCheck S y start (length work) (One (length smoothed)) ≡ Failed r
+        → record { answer = a; work = work; smoothed = smoothed } ≡ fitCall S y start max tol work smoothed
+    unfolding fitCall
+    fit-refused e = rw (e, refused)
+
+    pub fit-refused-later : admittedCheck S y start (length work) (One (length smoothed)) ≡ Passed → fitCheck start y ≡ Failed r
+        → record { answer = a; work = work; smoothed = smoothed } ≡ fitCall S y start max tol work smoothed
+    unfolding fitCall
+    fit-refused-later e d = rw (e, d, refused)
+
+  pub fit-ran : {need : ℕ} {w t : List Float} → a ≡ fittedOf y tol max start → need ≡ workNeed S y → w ≡ cleared need work
+      → t ≡ fittedTable y tol max start smoothed → admittedCheck S y start (length work) (One (length smoothed)) ≡ Passed → fitCheck start y ≡ Passed
+      → record { answer = a; work = w; smoothed = t } ≡ fitCall S y start max tol work smoothed
+  unfolding fitCall
+  fit-ran answer needed ran table e d = rw (e, d, answer, ran, needed, table)

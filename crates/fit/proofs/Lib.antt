@@ -1,0 +1,8 @@
+-- the ways through a pass
+pub mod OnePass
+-- what the passes keep, and how many there are
+pub mod Going
+-- what a fit leaves
+pub mod Ends
+-- no second outcome satisfies the contract
+pub mod Unique

@@ -1,0 +1,32 @@
+use borrow.Author.Tests.{not-true, not-false, eq-eqb, ne-eqb}
+use Rattle.fit.proofs.Ends.{order-zero, no-variance, a-variance}
+use Prim.Native.Nat.{ℕ, zero, suc, _+_, _*_, _-_, _/_, _%_, _^_, _<_, _≤_}
+use mathlib.Core.Path.{_≡_, refl, sym, ap, subst, _∙_}
+use mathlib.Core.List.{List, [], _∷_, _++_}
+use native.Mathlib.Omega.{arith}
+use borrow.Author.Needs.{needs, scaled-fits}
+use lib.ListN.{length, getD, set, replicate, take, drop}
+use Rattle.fit.proofs.check.Statement.{statement}
+use Rattle.fit.proofs.check.Tie as tie
+use Rattle.fit.proofs.check.Reads as reads
+use Rattle.fit.proofs.check.Lts as lts
+use Rattle.number.proofs.is_usable.Reads as is-usable-reads
+
+-- src/lib.rt:276:9
+returns : tie.Need-returns
+returns c = λ q y o v. order-zero q y o v (eq-eqb _ _ (c .if1 .taken))
+
+-- src/lib.rt:278:9
+is-usable-requires : tie.Need-is-usable-requires
+is-usable-requires c κs = search needs
+
+-- src/lib.rt:279:9
+returns-2 : tie.Need-returns-2
+returns-2 c = λ q y o v. no-variance q y o v (ne-eqb _ _ (c .before .before .if1 .left)) (sym (c .before .is-usable .ensures) ∙ not-true _ (c .if2 .taken))
+
+-- src/lib.rt:272:1
+returns-3 : tie.Need-returns-3
+returns-3 c = λ q y o v. a-variance q y o v (ne-eqb _ _ (c .before .before .if1 .left)) (sym (c .before .is-usable .ensures) ∙ not-false _ (c .if2 .left))
+
+pub check-spec : {M : Type 1} → statement M
+check-spec = tie.close (tie.spec returns is-usable-requires returns-2 returns-3)
