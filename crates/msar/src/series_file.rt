@@ -1,5 +1,4 @@
 // Reads a SERIES file.
-ghost use Prim.Native.Nat.{_≤_};
 use crate::lines;
 use crate::lines::Source;
 use crate::lines::State;
@@ -8,9 +7,6 @@ use crate::say;
 use series_text::Column;
 use series_text::Fault;
 use series_text::Item;
-
-// One reading more than a call takes.
-pub type Series = [f64; 4097];
 
 // What was at fault is said by then. Readings are counted past the room for them.
 pub struct Reading {
@@ -44,10 +40,6 @@ struct Next {
     good: bool,
 }
 
-pub fn unread() -> Series {
-    [0.0; 4097]
-}
-
 fn wrong(path: &[u8], line: u64, place: usize, f: Fault, name: &[u8]) {
     let c = column(place);
     match f {
@@ -63,13 +55,18 @@ fn wrong(path: &[u8], line: u64, place: usize, f: Fault, name: &[u8]) {
     }
 }
 
-// Keeps a reading, if there is room.
-fn kept(p: Progress, series: &mut Series, x: f64) -> Progress {
+// If there is room.
+fn store(series: &mut [f64], i: usize, x: f64) {
+    if i >= series.len() {
+        return;
+    }
+    series[i] = x;
+}
+
+fn kept(p: Progress, series: &mut [f64], x: f64) -> Progress {
     let count = p.count;
     let column = p.column;
-    if count < 4097 {
-        series[count] = x;
-    }
+    store(series, count, x);
     Progress {
         count: one_more(count),
         blank: 0,
@@ -120,7 +117,7 @@ fn blank(p: Progress, number: u64) -> Next {
 }
 
 // What a line adds.
-fn added(path: &[u8], number: u64, p: Progress, item: Item, name: &[u8], series: &mut Series) -> Next {
+fn added(path: &[u8], number: u64, p: Progress, item: Item, name: &[u8], series: &mut [f64]) -> Next {
     let column = p.column;
     match item {
         Item::Comment => same(p),
@@ -169,7 +166,7 @@ fn one_line(
     p: Progress,
     name: &[u8],
     block: &mut [u8; 4096],
-    series: &mut Series,
+    series: &mut [f64],
 ) -> Turn {
     let mut line = io::buffer();
     let taken = lines::next(source, block, &mut line);
@@ -200,7 +197,7 @@ fn one_line(
 
 // The readings of the file, in the series as far as there is room. `name` is the column's name, or its number as it was given.
 // A proved loop has to end, and nothing says that the file does: it stops after 2 ^ 32 lines.
-pub fn read(fd: i32, path: &[u8], column: Column, name: &[u8], series: &mut Series) -> Reading {
+pub fn read(fd: i32, path: &[u8], column: Column, name: &[u8], series: &mut [f64]) -> Reading {
     let mut block = io::buffer();
     let mut source = lines::of(fd);
     let mut p = Progress {

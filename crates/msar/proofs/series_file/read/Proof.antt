@@ -1,11 +1,13 @@
 -- `series_file::read` is safe and ends. The measure is what is left of the lines that it may read.
 use Prim.Native.Nat.{_≤_, _-_}
+use mathlib.Core.Path.{_≡_}
+use lib.ListN.{length}
 use borrow.Author.Needs.{needs}
 use Rattle.msar.proofs.series_file.read.Statement.{statement}
 use Rattle.msar.proofs.series_file.read.Tie as tie
 
 abbrev Inv-loop : tie.InvT-loop
-Inv-loop fd path name series₀ block₀ source₀ p₀ number₀ t12 series block source p number = number ≤ 0x1_0000_0000
+Inv-loop fd path name series₀ block₀ source₀ p₀ number₀ t12 series block source p number = (number ≤ 0x1_0000_0000) × (length series ≡ length series₀)
 
 abbrev μ-loop : tie.MeasureT-loop
 μ-loop fd path name series₀ block₀ source₀ p₀ number₀ t12 series block source p number = 0x1_0000_0000 - number
@@ -37,11 +39,17 @@ loop-again c = search needs
 enum-told-2 : tie.Need-enum-told-2 Inv-loop μ-loop
 enum-told-2 c = search needs
 
+same-length : tie.Need-same-length Inv-loop μ-loop
+same-length c = search needs
+
 returns : tie.Need-returns Inv-loop μ-loop
 returns c = search needs
 
 enum-told-3 : tie.Need-enum-told-3 Inv-loop μ-loop
 enum-told-3 c = search needs
+
+same-length-2 : tie.Need-same-length-2 Inv-loop μ-loop
+same-length-2 c = search needs
 
 returns-2 : tie.Need-returns-2 Inv-loop μ-loop
 returns-2 c = search needs
@@ -51,6 +59,9 @@ slice-aggregate-failed c = search needs
 
 failed-requires : tie.Need-failed-requires Inv-loop μ-loop
 failed-requires c κs = search needs
+
+same-length-3 : tie.Need-same-length-3 Inv-loop μ-loop
+same-length-3 c = search needs
 
 returns-3 : tie.Need-returns-3 Inv-loop μ-loop
 returns-3 c = search needs
@@ -70,9 +81,12 @@ read-spec =
     loop-less
     loop-again
     enum-told-2
+    same-length
     returns
     enum-told-3
+    same-length-2
     returns-2
     slice-aggregate-failed
     failed-requires
+    same-length-3
     returns-3)
