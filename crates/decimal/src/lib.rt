@@ -1,5 +1,6 @@
 // A stand-in: reads 0x and 16 hexadecimal digits, or a small whole number with a sign and a point and digits; writes 0x and digits.
 ghost use Prim.Native.Nat.{_≤_};
+
 pub enum Parsed {
     Number(f64),
     Wrong(usize),

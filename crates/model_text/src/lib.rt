@@ -297,7 +297,10 @@ fn regimes(line: &[u8], start: usize, from: usize, d: Draft) -> Step
         return wrong(Fault::Once, start, d);
     }
     match size(line, from) {
-        Count::Wrong => wrong(Fault::Size, from, d),
+        Count::Wrong => {
+            let word = text::word(line, from);
+            wrong(Fault::Size, word.start, d)
+        }
         Count::Number(n) => {
             let mut next = d;
             next.k = n;
@@ -314,7 +317,10 @@ fn order(line: &[u8], start: usize, from: usize, d: Draft) -> Step
         return wrong(Fault::Once, start, d);
     }
     match size(line, from) {
-        Count::Wrong => wrong(Fault::Size, from, d),
+        Count::Wrong => {
+            let word = text::word(line, from);
+            wrong(Fault::Size, word.start, d)
+        }
         Count::Number(n) => {
             let mut q = d.params;
             q.order = n;

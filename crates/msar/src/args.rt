@@ -98,7 +98,10 @@ fn waiting_for(o: Options, waiting: Waiting) -> Options {
 fn first_word(word: &[u8], o: Options) -> Options {
     let command = command_of(word);
     if let Command::Nothing = command {
-        say::error_of(b"no such command (msar --help says which there are): ", word);
+        say::error_of(
+            b"no such command (msar --help says which there are): ",
+            word,
+        );
         return bad(o);
     }
     with_command(o, command)
@@ -159,7 +162,10 @@ fn option(word: &[u8], o: Options) -> Options {
 fn max_iter(word: &[u8], o: Options) -> Options {
     match text::whole(word) {
         Count::Wrong => {
-            say::error_of(b"--max-iter takes a whole number below 1000000000, and not ", word);
+            say::error_of(
+                b"--max-iter takes a whole number below 1000000000, and not ",
+                word,
+            );
             bad(o)
         }
         Count::Number(n) => {
@@ -235,7 +241,11 @@ fn is_on_series(command: Command) -> bool {
 }
 
 fn is_fit(command: Command) -> bool {
-    if let Command::Fit = command { true } else { false }
+    if let Command::Fit = command {
+        true
+    } else {
+        false
+    }
 }
 
 fn needs_model(command: Command) -> bool {

@@ -93,7 +93,14 @@ fn loglike(s: MsarSpec, y: &[f64], q: MsarParams, readings: usize, work: &mut [f
     }
 }
 
-fn filter(s: MsarSpec, y: &[f64], q: MsarParams, readings: usize, work: &mut [f64], filtered: &mut [f64]) {
+fn filter(
+    s: MsarSpec,
+    y: &[f64],
+    q: MsarParams,
+    readings: usize,
+    work: &mut [f64],
+    filtered: &mut [f64],
+) {
     let answer = model::filter(s, y, q, work, filtered);
     let check = answer.check;
     if has_passed(check, readings) {

@@ -35,11 +35,7 @@ struct Step {
 }
 
 pub fn of(fd: i32) -> Source {
-    Source {
-        fd,
-        at: 0,
-        have: 0,
-    }
+    Source { fd, at: 0, have: 0 }
 }
 
 // The first byte of the next block.

@@ -2,6 +2,7 @@
 ghost use mathlib.Core.Path.{_≡_};
 ghost use Prim.Native.Nat.{_≤_};
 ghost use lib.ListN.{length};
+
 mod args;
 mod commands;
 mod help;
@@ -69,13 +70,29 @@ fn unread() -> [f64; 4097]
 }
 
 // The readings of the file, and what the command makes of them.
-fn with_readings(o: Options, s: MsarSpec, q: MsarParams, fd: i32, path: &[u8], column: Column, name: &[u8]) {
+fn with_readings(
+    o: Options,
+    s: MsarSpec,
+    q: MsarParams,
+    fd: i32,
+    path: &[u8],
+    column: Column,
+    name: &[u8],
+) {
     let mut series = unread();
     let reading = series_file::read(fd, path, column, name, &mut series);
     if reading.good {
         let command = o.command;
         let held = least(reading.count, 4097);
-        commands::on_series(command, s, q, &series[..held], reading.count, o.max_iter, o.tol);
+        commands::on_series(
+            command,
+            s,
+            q,
+            &series[..held],
+            reading.count,
+            o.max_iter,
+            o.tol,
+        );
     }
 }
 

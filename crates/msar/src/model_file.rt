@@ -56,7 +56,13 @@ fn wrong(path: &[u8], line: u64, place: usize, f: Fault) {
         Fault::Number => say::expected(path, line, c, b"a number"),
         Fault::Numbers(n) => say::expected_count(path, line, c, b"exactly so many numbers: ", n),
         Fault::OneOr(n) => say::expected_count(path, line, c, b"one number, or exactly ", n),
-        Fault::Enough(n) => say::expected_count(path, line, c, b"no more lines of this kind than ", n),
+        Fault::Enough(n) => say::expected_count(
+            path,
+            line,
+            c,
+            b"no more lines of this kind than ",
+            n,
+        ),
         Fault::Regimes => say::expected(path, line, c, b"a line `regimes`, and the file ends"),
         Fault::Order => say::expected(path, line, c, b"a line `order`, and the file ends"),
         Fault::Transition(n) => say::expected_count(
@@ -108,7 +114,13 @@ fn stopped(source: Source, draft: Draft) -> Turn {
 }
 
 // Reads a line.
-fn one_line(path: &[u8], number: u64, source: Source, draft: Draft, block: &mut [u8; 4096]) -> Turn {
+fn one_line(
+    path: &[u8],
+    number: u64,
+    source: Source,
+    draft: Draft,
+    block: &mut [u8; 4096],
+) -> Turn {
     let mut line = io::buffer();
     let taken = lines::next(source, block, &mut line);
     let after = taken.source;
@@ -120,7 +132,12 @@ fn one_line(path: &[u8], number: u64, source: Source, draft: Draft, block: &mut 
             stopped(after, draft)
         }
         State::Long => {
-            say::expected(path, number, 4097, b"the line's end: a line has at most 4096 bytes");
+            say::expected(
+                path,
+                number,
+                4097,
+                b"the line's end: a line has at most 4096 bytes",
+            );
             stopped(after, draft)
         }
         State::End => Turn {

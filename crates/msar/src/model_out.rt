@@ -9,7 +9,14 @@ use crate::table::row_start;
 use params::MsarParams;
 
 // A keyword and so many numbers from a place on.
-fn line(out: &mut Text, at: usize, keyword: &[u8], values: &[f64], from: usize, count: usize) -> usize
+fn line(
+    out: &mut Text,
+    at: usize,
+    keyword: &[u8],
+    values: &[f64],
+    from: usize,
+    count: usize,
+) -> usize
     requires { ⌜ (from ≤ 65536) × (count ≤ 16) ⌝ }
     ensures { λ r. ⌜ Leads r (now (out .exit)) ⌝ }
 {

@@ -24,8 +24,7 @@ pub fn number(out: &mut Text, at: usize, x: f64) -> usize
 {
     let written = decimal::write(x);
     let digits = written.bytes;
-    let k = written.length;
-    text::put_piece(out, at, digits, k)
+    text::put_piece(out, at, digits, written.length)
 }
 
 // The name of a file, as an error names it.

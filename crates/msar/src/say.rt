@@ -87,7 +87,11 @@ fn of_series(out: &mut Text, n: usize, number: usize) -> usize
         4 => put::bytes(out, n, b"the series is too short for the order"),
         5 => put::bytes(out, n, b"the series has more than 4096 readings"),
         6 => put::bytes(out, n, b"a reading is not finite"),
-        _ => put::bytes(out, n, b"the program's memory is too short for so many readings and windows"),
+        _ => put::bytes(
+            out,
+            n,
+            b"the program's memory is too short for so many readings and windows",
+        ),
     }
 }
 
@@ -98,13 +102,29 @@ fn of_params(out: &mut Text, n: usize, number: usize) -> usize
     match number {
         10 => put::bytes(out, n, b"there are fewer than 2 means"),
         11 => put::bytes(out, n, b"a mean is not finite"),
-        12 => put::bytes(out, n, b"a count of numbers or lines does not fit the regimes and the order"),
-        13 => put::bytes(out, n, b"an entry of the transition table is no probability"),
-        14 => put::bytes(out, n, b"a column of the transition table does not add up to 1"),
+        12 => put::bytes(
+            out,
+            n,
+            b"a count of numbers or lines does not fit the regimes and the order",
+        ),
+        13 => put::bytes(
+            out,
+            n,
+            b"an entry of the transition table is no probability",
+        ),
+        14 => put::bytes(
+            out,
+            n,
+            b"a column of the transition table does not add up to 1",
+        ),
         15 => put::bytes(out, n, b"an AR coefficient is not finite"),
         16 => put::bytes(out, n, b"a variance is not finite or not above 0"),
         17 => put::bytes(out, n, b"there is no line of AR coefficients"),
-        _ => put::bytes(out, n, b"there are more than 16 means, or the order is above 7"),
+        _ => put::bytes(
+            out,
+            n,
+            b"there are more than 16 means, or the order is above 7",
+        ),
     }
 }
 
@@ -116,7 +136,11 @@ fn of_run(out: &mut Text, n: usize, number: usize) -> usize
         20 => put::bytes(out, n, b"the parameters do not have the spec's shape"),
         21 => put::bytes(out, n, b"a system of equations is singular"),
         22 => put::bytes(out, n, b"a stationary share is not finite or below 0"),
-        23 => put::bytes(out, n, b"a reading's likelihood is not finite or not above 0"),
+        23 => put::bytes(
+            out,
+            n,
+            b"a reading's likelihood is not finite or not above 0",
+        ),
         24 => put::bytes(out, n, b"a fit needs an order of at least 1"),
         25 => put::bytes(out, n, b"the sample variance is not finite or not above 0"),
         _ => put::bytes(out, n, b"the log-likelihood is not finite"),

@@ -117,7 +117,14 @@ fn blank(p: Progress, number: u64) -> Next {
 }
 
 // What a line adds.
-fn added(path: &[u8], number: u64, p: Progress, item: Item, name: &[u8], series: &mut [f64]) -> Next {
+fn added(
+    path: &[u8],
+    number: u64,
+    p: Progress,
+    item: Item,
+    name: &[u8],
+    series: &mut [f64],
+) -> Next {
     let column = p.column;
     match item {
         Item::Comment => same(p),
@@ -130,7 +137,12 @@ fn added(path: &[u8], number: u64, p: Progress, item: Item, name: &[u8], series:
         }
         Item::Reading(x) => {
             if p.blank != 0 {
-                say::expected(path, p.blank, 1, b"a reading: more follow after this blank line");
+                say::expected(
+                    path,
+                    p.blank,
+                    1,
+                    b"a reading: more follow after this blank line",
+                );
                 return bad(p);
             }
             same(kept(p, series, x))
@@ -180,7 +192,12 @@ fn one_line(
             stopped(after, p)
         }
         State::Long => {
-            say::expected(path, number, 4097, b"the line's end: a line has at most 4096 bytes");
+            say::expected(
+                path,
+                number,
+                4097,
+                b"the line's end: a line has at most 4096 bytes",
+            );
             stopped(after, p)
         }
         State::End => Turn {

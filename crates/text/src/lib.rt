@@ -231,14 +231,14 @@ pub fn put(out: &mut [u8], at: usize, text: &[u8]) -> usize
     to
 }
 
-// The same for the first n bytes of a piece by value.
+// The same for the first n bytes of a piece by value, which has 32.
 pub fn put_piece(out: &mut [u8], at: usize, piece: [u8; 32], n: usize) -> usize
-    requires { ⌜ n ≤ 32 ⌝ }
     ensures { λ r. ⌜ Leads r (now (out .exit)) ⌝ }
 {
+    let count = least(n, 32);
     let mut to = least(at, out.len());
     let mut i = 0;
-    while i < n {
+    while i < count {
         if to >= out.len() {
             return to;
         }

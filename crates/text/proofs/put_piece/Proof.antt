@@ -8,13 +8,16 @@ use Rattle.text.proofs.put_piece.Statement.{statement}
 use Rattle.text.proofs.put_piece.Tie as tie
 
 abbrev Inv-loop : tie.InvT-loop
-Inv-loop out₀ at n piece to₀ i₀ out to i = (to ≤ length out₀) × (length out ≡ length out₀) × (i ≤ n)
+Inv-loop out₀ at n piece count to₀ i₀ out to i = (to ≤ length out₀) × (length out ≡ length out₀) × (i ≤ 32)
 
 abbrev μ-loop : tie.MeasureT-loop
-μ-loop out₀ at n piece to₀ i₀ out to i = n - i
+μ-loop out₀ at n piece count to₀ i₀ out to i = count - i
 
 least-requires : tie.Need-least-requires Inv-loop μ-loop
 least-requires c κs = search needs
+
+least-requires-2 : tie.Need-least-requires-2 Inv-loop μ-loop
+least-requires-2 c κs = search needs
 
 loop-holds : tie.Need-loop-holds Inv-loop μ-loop
 loop-holds c = search needs
@@ -56,6 +59,7 @@ put-piece-spec =
     Inv-loop
     μ-loop
     least-requires
+    least-requires-2
     loop-holds
     same-length
     returns
