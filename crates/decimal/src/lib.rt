@@ -1,109 +1,86 @@
-// A stand-in: reads 0x and 16 hexadecimal digits, or a small whole number with a sign and a point and digits; writes 0x and digits.
-ghost use Prim.Native.Nat.{_≤_};
+// Decimal numbers: text to the nearest f64, and an f64 to the nearest decimal of 17 digits.
+ghost use mathlib.Core.Path.{_≡_};
+ghost use Rattle.decimal.specs.Text.{readOf};
+ghost use Rattle.decimal.specs.Decimals.{writtenOf};
+
+mod grammar;
+mod reading;
+mod ten;
+mod writing;
+
+// Where in a number the reader stands: what came last.
+pub enum Place {
+    Start,
+    Sign,
+    Zero,
+    Whole,
+    Point,
+    Fraction,
+    Mark,
+    MarkSign,
+    Exponent,
+    I,
+    In,
+    Inf,
+    N,
+    Na,
+    Nan,
+    Hex(usize),
+}
+
+// What was read: the number is digits * 10 ^ up / 10 ^ down, times ten to the exponent, which `under` makes negative.
+pub struct State {
+    pub place: Place,
+    pub negative: bool,
+    pub digits: u64,
+    pub up: usize,
+    pub down: usize,
+    pub under: bool,
+    pub exponent: usize,
+}
+
+pub enum Next {
+    Go(State),
+    Fault,
+}
 
 pub enum Parsed {
     Number(f64),
+    // the place of the first byte at fault; the text's length where it ends too early
     Wrong(usize),
 }
 
+// digits * 10 ^ (tens - 340)
+pub struct Decimal {
+    pub digits: u64,
+    pub tens: usize,
+}
+
+// The first `length` bytes are the text.
 pub struct Written {
     pub bytes: [u8; 32],
     pub length: usize,
 }
 
-fn digit(c: u8) -> u64 {
-    match c {
-        b'0'..=b'9' => (c - b'0') as u64,
-        b'a'..=b'f' => (c - b'a') as u64 + 10,
-        _ => 16,
-    }
-}
-
-fn hex(text: &[u8]) -> Parsed {
-    let mut n: u64 = 0;
-    let mut i = 2;
-    while i < text.len() {
-        let d = digit(text[i]);
-        if d > 15 {
-            return Parsed::Wrong(i);
-        }
-        n = (n << 4) | d;
-        i += 1;
-    }
-    Parsed::Number(number::of_pattern(n))
-}
-
-// Digits with a point; wrong in the last bits at times.
-fn plain(text: &[u8], from: usize) -> Parsed {
-    let mut x = 0.0;
-    let mut scale = 1.0;
-    let mut after = false;
-    let mut i = from;
-    while i < text.len() {
-        if text[i] == b'.' {
-            after = true;
-        } else {
-            let d = digit(text[i]);
-            if d > 9 {
-                return Parsed::Wrong(i);
-            }
-            x = x * 10.0 + (d as i32) as f64;
-            if after {
-                scale = scale * 10.0;
-            }
-        }
-        i += 1;
-    }
-    Parsed::Number(x / scale)
-}
-
-pub fn read(text: &[u8]) -> Parsed {
-    if text.len() == 0 {
-        return Parsed::Wrong(0);
-    }
-    if text.len() == 18 {
-        return hex(text);
-    }
-    if text[0] == b'n' {
-        return Parsed::Number(0.0 / 0.0);
-    }
-    if text[0] == b'i' {
-        return Parsed::Number(1.0 / 0.0);
-    }
-    if text[0] == b'-' {
-        match plain(text, 1) {
-            Parsed::Number(x) => {
-                return Parsed::Number(-x);
-            }
-            Parsed::Wrong(i) => {
-                return Parsed::Wrong(i);
-            }
-        }
-    }
-    plain(text, 0)
-}
-
-pub fn write(x: f64) -> Written
-    ensures { λ r. ⌜ r .length ≤ 32 ⌝ }
+// The number that the whole text is.
+pub fn read(text: &[u8]) -> Parsed
+    ensures { λ r. ⌜ r ≡ readOf (now (text .entry)) ⌝ }
 {
-    let n = number::pattern(x);
-    let mut bytes = [b'0'; 32];
-    bytes[1] = b'x';
+    let mut s = grammar::start();
     let mut i = 0;
-    while i < 16 {
-        let d = (n >> ((15 - i) * 4)) & 15;
-        bytes[i + 2] = letter(d);
+    while i < text.len() {
+        let Next::Go(next) = grammar::step(s, text[i]) else {
+            return Parsed::Wrong(i);
+        };
+        s = next;
         i += 1;
     }
-    Written { bytes, length: 18 }
+    reading::finish(s, i)
 }
 
-fn letter(d: u64) -> u8 {
-    if d < 10 {
-        return b'0' + d as u8;
-    }
-    if d < 16 {
-        return b'a' + (d - 10) as u8;
-    }
-    b'?'
+// The text of a number: 17 digits, or `inf`, `-inf`, `nan`.
+pub fn write(x: f64) -> Written
+    ensures { λ r. ⌜ r ≡ writtenOf x ⌝ }
+{
+    writing::text_of(number::pattern(x))
 }

@@ -1,0 +1,22 @@
+use borrow.Author.Needs.{needs}
+use borrow.Author.Tests.{eq-eqb, ne-eqb}
+use Rattle.decimal.specs.Text.{afterZero}
+use Rattle.decimal.proofs.grammar.after_zero.Statement.{statement}
+use Rattle.decimal.proofs.grammar.after_zero.Tie as tie
+
+moved-requires : tie.Need-moved-requires
+moved-requires c κs = search needs
+
+returns : tie.Need-returns
+unfolding afterZero
+returns c = simp (eq-eqb _ _ (c .before .if1 .taken)) (cc)
+
+in-whole-requires : tie.Need-in-whole-requires
+in-whole-requires c κs = search needs
+
+returns-2 : tie.Need-returns-2
+unfolding afterZero
+returns-2 c = simp (ne-eqb _ _ (c .before .if1 .left)) (cc)
+
+pub after-zero-spec : {M : Type 1} → statement M
+after-zero-spec = tie.close (tie.spec moved-requires returns in-whole-requires returns-2)
