@@ -162,6 +162,23 @@ fn stopped(fault: Fault, place: usize) -> Row
     }
 }
 
+// The row of these n numbers, where nothing but a comment follows them.
+fn no_more(line: &[u8], from: usize, n: usize, values: [f64; 16]) -> Row
+    requires { ⌜ from ≤ length (now line) ⌝ }
+    ensures { λ r. ⌜ r .count ≤ n ⌝ }
+{
+    let more = text::word(line, from);
+    if more.start != more.end {
+        return stopped(Fault::Numbers(n), more.start);
+    }
+    Row {
+        outcome: Outcome::Fine,
+        values,
+        count: n,
+        end: more.start,
+    }
+}
+
 // The numbers from this place on, no more than `most` of them.
 fn numbers(line: &[u8], from: usize, most: usize) -> Row
     requires { ⌜ (from ≤ length (now line)) × (most ≤ 16) ⌝ }
@@ -193,16 +210,7 @@ fn numbers(line: &[u8], from: usize, most: usize) -> Row
         count += 1;
         at = b;
     }
-    let more = text::word(line, at);
-    if more.start != more.end {
-        return stopped(Fault::Numbers(most), more.start);
-    }
-    Row {
-        outcome: Outcome::Fine,
-        values,
-        count,
-        end: more.start,
-    }
+    no_more(line, at, most, values)
 }
 
 // The whole number from this place on, alone.

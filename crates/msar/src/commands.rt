@@ -1,7 +1,6 @@
 // The commands on a model and a series. Their memory is the program's own, on its stack: 3 MiB of work memory and two tables of
 // half a MiB. Work memory holds 3 * n * m numbers for n rows of m windows: 4,096 readings with 32 windows, 512 with 256.
 ghost use mathlib.Core.Path.{_≡_};
-ghost use Prim.Native.Nat.{_≤_};
 ghost use lib.ListN.{length};
 use crate::args::Command;
 use crate::model_out;

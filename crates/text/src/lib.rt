@@ -3,6 +3,7 @@
 ghost use mathlib.Core.Path.{_≡_};
 ghost use Prim.Native.Nat.{_≤_};
 ghost use lib.ListN.{length};
+ghost use Rattle.text.specs.Words.{isBlank, inWord, past, wordFrom};
 ghost use Rattle.text.specs.Places.{Inside, Leads};
 
 // From `start` up to, not including, `end`.
@@ -25,18 +26,23 @@ pub enum Count {
 // ---- words
 
 // A carriage return is a blank, so that a line may end in one.
-fn is_blank(c: u8) -> bool {
+fn is_blank(c: u8) -> bool
+    ensures { λ r. ⌜ r ≡ isBlank c ⌝ }
+{
     (c == b' ') | (c == b'\t') | (c == b'\r')
 }
 
-fn ends_word(c: u8) -> bool {
-    is_blank(c) | (c == b'#')
+fn is_in_word(c: u8) -> bool
+    ensures { λ r. ⌜ r ≡ inWord c ⌝ }
+{
+    !is_blank(c) & (c != b'#')
 }
 
 // The first place from this one on that holds no blank, or the line's end.
 fn past_blanks(line: &[u8], from: usize) -> usize
     requires { ⌜ from ≤ length (now line) ⌝ }
-    ensures { λ r. ⌜ (from ≤ r) × (r ≤ length (now (line .entry))) ⌝ }
+    ensures bounds { λ r. ⌜ (from ≤ r) × (r ≤ length (now (line .entry))) ⌝ }
+    ensures place { λ r. ⌜ r ≡ past isBlank (now (line .entry)) from ⌝ }
 {
     let mut i = from;
     while i < line.len() {
@@ -51,11 +57,12 @@ fn past_blanks(line: &[u8], from: usize) -> usize
 // The first place from this one on that holds a blank or begins a comment, or the line's end.
 fn word_end(line: &[u8], from: usize) -> usize
     requires { ⌜ from ≤ length (now line) ⌝ }
-    ensures { λ r. ⌜ (from ≤ r) × (r ≤ length (now (line .entry))) ⌝ }
+    ensures bounds { λ r. ⌜ (from ≤ r) × (r ≤ length (now (line .entry))) ⌝ }
+    ensures place { λ r. ⌜ r ≡ past inWord (now (line .entry)) from ⌝ }
 {
     let mut i = from;
     while i < line.len() {
-        if ends_word(line[i]) {
+        if !is_in_word(line[i]) {
             return i;
         }
         i += 1;
@@ -66,7 +73,8 @@ fn word_end(line: &[u8], from: usize) -> usize
 // The next word from this place on. It is empty at the line's end and where a comment begins.
 pub fn word(line: &[u8], from: usize) -> Span
     requires { ⌜ from ≤ length (now line) ⌝ }
-    ensures { λ r. ⌜ (from ≤ r .start) × (r .start ≤ r .end) × (r .end ≤ length (now (line .entry))) ⌝ }
+    ensures bounds { λ r. ⌜ (from ≤ r .start) × (r .start ≤ r .end) × (r .end ≤ length (now (line .entry))) ⌝ }
+    ensures places { λ r. ⌜ r ≡ wordFrom (now (line .entry)) from ⌝ }
 {
     let start = past_blanks(line, from);
     let end = word_end(line, start);

@@ -62,17 +62,11 @@ loop-less c = search needs
 loop-again : tie.Need-loop-again Inv-loop μ-loop
 loop-again c = search needs
 
-word-requires-2 : tie.Need-word-requires-2 Inv-loop μ-loop
-word-requires-2 c κs = search needs
-
-stopped-requires-2 : tie.Need-stopped-requires-2 Inv-loop μ-loop
-stopped-requires-2 c κs = search needs
+no-more-requires : tie.Need-no-more-requires Inv-loop μ-loop
+no-more-requires c κs = search needs
 
 returns-3 : tie.Need-returns-3 Inv-loop μ-loop
 returns-3 c = search needs
-
-returns-4 : tie.Need-returns-4 Inv-loop μ-loop
-returns-4 c = search needs
 
 pub numbers-spec : {M : Type 1} → statement M
 numbers-spec =
@@ -97,7 +91,5 @@ numbers-spec =
     add-count
     loop-less
     loop-again
-    word-requires-2
-    stopped-requires-2
-    returns-3
-    returns-4)
+    no-more-requires
+    returns-3)

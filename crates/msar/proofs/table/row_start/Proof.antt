@@ -1,5 +1,5 @@
 -- `table::row_start` meets its contract: 4,096 rows of 16 numbers are 65,536.
-use Prim.Native.Nat.{suc, _≤_}
+use Prim.Native.Nat.{_≤_}
 use native.Mathlib.Nat.{mul-le-mul}
 use native.Mathlib.Omega.{arith}
 use Rattle.msar.proofs.table.row_start.Statement.{statement}
