@@ -1,0 +1,2 @@
+-- places of a table
+pub mod Below

@@ -1,0 +1,2 @@
+-- the first place that fails a test
+pub mod Past
