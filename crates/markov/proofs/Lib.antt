@@ -1,0 +1,4 @@
+pub mod Apart
+pub mod Kit
+pub mod Thin
+pub mod Unique
