@@ -34,12 +34,16 @@ use Rattle.model.specs.Calls.{cleared, smoothedTable}
 use Rattle.model.proofs.Runs.{rows-fit}
 use Rattle.model.proofs.Admitted.{Admitted}
 use Rattle.step.specs.Ready.{Ready}
-use Rattle.step.proofs.Kept.{Alike, windows-alike, still-ready}
+use Rattle.step.proofs.Kept.{Alike, Good, windows-alike, still-ready}
 use Rattle.fit.specs.declared.Course.the-variants.{Going, Converged, Refused}
+use Rattle.fit.specs.declared.Course.{Course}
+use Rattle.fit.specs.declared.End.{End}
 use Rattle.fit.specs.declared.State.{State}
 use Rattle.fit.specs.declared.Fitted.{Fitted}
-use Rattle.fit.specs.Fit.{passesTo, fittedAfter, closed, fittedOf}
-use Rattle.fit.specs.Calls.{fitCheck, fittedTable, fitCall}
+use Rattle.fit.specs.Fit.{passesTo, fittedAfter, closed, endedAt, fittedOf}
+use Rattle.fit.specs.Verdicts.{endOf}
+use Rattle.fit.specs.Calls.{fitCheck, tableAt, fittedTable, fitCall}
+use Rattle.fit.proofs.Going.{Kept, passes-kept}
 
 -- ---- the closing pass
 
@@ -96,32 +100,65 @@ closing-ready {q} {start} {n = n} {room = room} a ready windows work table e =
 
 -- ---- where the passes ended
 
-module _ (y : List Float) (tol : Float) (max : ℕ) (start : MsarParams) {s : State} (e : s ≡ passesTo y tol start max) where
-  module _ {f : Fitted} where
-    pub ended-going : s .course ≡ Going → f ≡ closed y (s .params) max false → f ≡ fittedOf y tol max start
-    unfolding fittedOf
-    ended-going g d = rw (← e, g) d
+-- a refusal is not passed
+abbrev Held : Type 0 → Check → Type 0
+Held A Passed = A
+Held A (Failed r) = Unit {0}
 
-    pub ended-converged : {n : ℕ} → s .course ≡ Converged n → f ≡ closed y (s .params) n true → f ≡ fittedOf y tol max start
-    unfolding fittedOf
-    ended-converged g d = rw (← e, g) d
+module _ (start : MsarParams) (i max : ℕ) (q : MsarParams) where
+  good-unless : (c : Course) → endOf max c .check ≡ Passed → Kept start i c q → Good q start
+  good-unless Going e h = h
+  good-unless (Converged n) e h = h .0
+  good-unless (Refused r) e h = subst (λ (x : Check). Held (Good q start) x) e tt
 
-    pub ended-refused : {r : Refusal} → s .course ≡ Refused r → f ≡ fittedAfter (Failed r) start zero⁺ 0 false → f ≡ fittedOf y tol max start
-    unfolding fittedOf
-    ended-refused g d = rw (← e, g) d
+module _ (y : List Float) (max : ℕ) (q start : MsarParams) where
+  at-end : (c : Course) → endOf max c .check ≡ Passed → closed y q (endOf max c .iterations) (endOf max c .converged) ≡ endedAt y max q c
+  at-end Going e = refl
+  at-end (Converged n) e = refl
+  at-end (Refused r) e = cc
 
-  module _ (found : List Float) where
-    pub table-going : {t : List Float} → s .course ≡ Going → t ≡ smoothedTable (s .params) y found → t ≡ fittedTable y tol max start found
-    unfolding fittedTable
-    table-going g d = rw (← e, g) d
+  at-refusal : (c : Course) {r : Refusal} → endOf max c .check ≡ Failed r → fittedAfter (Failed r) start zero⁺ 0 false ≡ endedAt y max q c
+  at-refusal Going e = cc
+  at-refusal (Converged n) e = cc
+  at-refusal (Refused r) e = ap (λ (x : Check). fittedAfter x start zero⁺ 0 false) (sym e)
 
-    pub table-converged : {t : List Float} {n : ℕ} → s .course ≡ Converged n → t ≡ smoothedTable (s .params) y found → t ≡ fittedTable y tol max start found
-    unfolding fittedTable
-    table-converged g d = rw (← e, g) d
+  table-at-end : (c : Course) (found : List Float) → endOf max c .check ≡ Passed → smoothedTable q y found ≡ tableAt y q c found
+  table-at-end Going found e = refl
+  table-at-end (Converged n) found e = refl
+  table-at-end (Refused r) found e = cc
 
-    pub table-refused : {r : Refusal} → s .course ≡ Refused r → found ≡ fittedTable y tol max start found
-    unfolding fittedTable
-    table-refused g = rw (← e, g) refl
+  table-at-refusal : (c : Course) (found : List Float) {r : Refusal} → endOf max c .check ≡ Failed r → found ≡ tableAt y q c found
+  table-at-refusal Going found e = cc
+  table-at-refusal (Converged n) found e = cc
+  table-at-refusal (Refused r) found e = refl
+
+module _ (y : List Float) (tol : Float) (max : ℕ) (start : MsarParams) {s : State} (e : s ≡ passesTo y tol start max) {E : End} (end : E ≡ endOf max (s .course)) where
+  check-is : {c : Check} → E .check ≡ c → endOf max (s .course) .check ≡ c
+  check-is d = sym (ap (λ (x : End). x .check) end) ∙ d
+
+  pub end-good : parameterCheck start ≡ Passed → E .check ≡ Passed → Good (s .params) start
+  end-good checked d = good-unless start max max (s .params) (s .course) (check-is d)
+      (subst (λ (x : State). Kept start max (x .course) (x .params)) (sym e) (passes-kept start y tol checked max))
+
+  fitted-at : endedAt y max (s .params) (s .course) ≡ fittedOf y tol max start
+  unfolding fittedOf
+  fitted-at = ap (λ (x : State). endedAt y max (x .params) (x .course)) e
+
+  table-at : (found : List Float) → tableAt y (s .params) (s .course) found ≡ fittedTable y tol max start found
+  unfolding fittedTable
+  table-at found = ap (λ (x : State). tableAt y (x .params) (x .course) found) e
+
+  pub end-passed : {f : Fitted} → E .check ≡ Passed → f ≡ closed y (s .params) (E .iterations) (E .converged) → f ≡ fittedOf y tol max start
+  end-passed d h = h ∙ ap (λ (x : End). closed y (s .params) (x .iterations) (x .converged)) end ∙ at-end y max (s .params) start (s .course) (check-is d) ∙ fitted-at
+
+  pub end-refused : {f : Fitted} {r : Refusal} → E .check ≡ Failed r → f ≡ fittedAfter (Failed r) start zero⁺ 0 false → f ≡ fittedOf y tol max start
+  end-refused d h = h ∙ at-refusal y max (s .params) start (s .course) (check-is d) ∙ fitted-at
+
+  pub table-passed : (found : List Float) {t : List Float} → E .check ≡ Passed → t ≡ smoothedTable (s .params) y found → t ≡ fittedTable y tol max start found
+  table-passed found d h = h ∙ table-at-end y max (s .params) start (s .course) found (check-is d) ∙ table-at found
+
+  pub table-refused : (found : List Float) {r : Refusal} → E .check ≡ Failed r → found ≡ fittedTable y tol max start found
+  table-refused found d = table-at-refusal y max (s .params) start (s .course) found (check-is d) ∙ table-at found
 
 -- ---- 24 and 25
 

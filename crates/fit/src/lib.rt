@@ -21,7 +21,7 @@ ghost use Rattle.series.specs.Series.{sampleVariance};
 ghost use Rattle.model.specs.Calls.{cleared, smoothedTable};
 ghost use Rattle.step.specs.Ready.{Ready};
 ghost use Rattle.fit.specs.Fit.{stops, passesTo, fittedAfter, fittedOf};
-ghost use Rattle.fit.specs.Verdicts.{verdictAfter, verdictOf};
+ghost use Rattle.fit.specs.Verdicts.{verdictAfter, verdictOf, endOf};
 ghost use Rattle.fit.specs.declared.Course.the-variants.{Going, Converged};
 ghost use Rattle.fit.specs.Calls.{fitCheck, fittedTable, fitCall};
 use binding::Tables;
@@ -266,6 +266,35 @@ fn ended(answer: Answer, q: MsarParams, iterations: usize, converged: bool) -> F
 
 // ---- the call
 
+// The refusal of the passes, or how many there were and whether they converged.
+pub struct End {
+    pub check: Check,
+    pub iterations: usize,
+    pub converged: bool,
+}
+
+fn end_of(course: Course, max_iter: usize) -> End
+    ensures { λ e. ⌜ e ≡ endOf «max_iter» course ⌝ }
+{
+    match course {
+        Course::Going => End {
+            check: Check::Passed,
+            iterations: max_iter,
+            converged: false,
+        },
+        Course::Converged(i) => End {
+            check: Check::Passed,
+            iterations: i,
+            converged: true,
+        },
+        Course::Refused(r) => End {
+            check: Check::Failed(r),
+            iterations: 0,
+            converged: false,
+        },
+    }
+}
+
 // The passes, then the closing one at the parameters reached.
 fn run_fit(
     start: MsarParams,
@@ -287,18 +316,16 @@ fn run_fit(
 {
     let s = passes(start, max_iter, tol, y, floor, power, m, n, work);
     let course = s.course;
-    match course {
-        Course::Going => {
-            let answer = close(s.params, y, power, m, n, work, smoothed);
-            ended(answer, s.params, max_iter, false)
-        }
-        Course::Converged(i) => {
-            let answer = close(s.params, y, power, m, n, work, smoothed);
-            ended(answer, s.params, i, true)
-        }
-        Course::Refused(r) => {
+    let end = end_of(course, max_iter);
+    let check = end.check;
+    match check {
+        Check::Failed(r) => {
             rows::clear(work, 3 * (n * m));
             refused(r)
+        }
+        Check::Passed => {
+            let answer = close(s.params, y, power, m, n, work, smoothed);
+            ended(answer, s.params, end.iterations, end.converged)
         }
     }
 }

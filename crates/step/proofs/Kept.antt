@@ -3,7 +3,6 @@
 use Prim.Native.Nat.{ℕ, suc, _+_, _*_, _^_, _<_, _≤_}
 use mathlib.Core.Path.{_≡_, refl, sym, ap, subst, _∙_}
 use mathlib.Core.List.{List}
-use lib.ListN.{drop}
 use lib.Ieee.{Float}
 use Rattle.refusal.specs.declared.Check.{Check}
 use Rattle.refusal.specs.declared.Check.the-variants.{Passed, Failed}
@@ -11,11 +10,8 @@ use Rattle.params.specs.declared.MsarParams.{MsarParams}
 use Rattle.params.specs.declared.Built.{Built}
 use Rattle.params.specs.Parameters.{k, p}
 use Rattle.params.specs.Checks.{parameterCheck}
-use Rattle.params.specs.Built.{tidy, nothing, builtAfter, builtOf}
-use Rattle.params.proofs.Again.{again}
 use Rattle.window.specs.Shape.{Shape}
 use Rattle.rows.specs.Rows.{Same}
-use Rattle.rows.specs.Memory.{filteredFrom}
 use Rattle.smoothed.specs.Smoothed.{windowsOf}
 use Rattle.counts.specs.Counts.{newTransition}
 use Rattle.counts.proofs.Dividing.{transition-same}
@@ -24,7 +20,8 @@ use Rattle.means.proofs.Same.{new-means-same}
 use Rattle.coefficients.specs.Coefficients.{newAr}
 use Rattle.coefficients.proofs.Sums.{ar-same}
 use Rattle.variances.proofs.Sums.{variances-same}
-use Rattle.step.specs.Step.{withMeans, withAr, withTransition, _leads_, improved, stepOf}
+use Rattle.step.specs.declared.Gaussian.{Gaussian}
+use Rattle.step.specs.Step.{withTables, withMeans, withAr, withGaussian, _leads_, improved, stepOf}
 use Rattle.step.specs.Ready.{Ready}
 
 -- ---- the counts of the parameters
@@ -53,23 +50,10 @@ leads-passed : (c : Check) (b : Built) → (c leads b) .check ≡ Passed → (c 
 leads-passed Passed b e = (refl, e)
 leads-passed (Failed r) b e = (e, cc)
 
-leads-ext : (c : Check) (a b : Built) → (c ≡ Passed → a ≡ b) → (c leads a) ≡ (c leads b)
-leads-ext Passed a b e = e refl
-leads-ext (Failed r) a b e = refl
-
-module _ (y : List Float) (n : ℕ) (rows : ℕ → List Float) (q : MsarParams) where
-  pub improved-alike : improved y n rows q .check ≡ Passed → Alike (improved y n rows q .params) q
-  unfolding improved
-  improved-alike e =
-      let u = leads-passed (newMeans q y n rows .check) _ e in
-      let v = leads-passed (newAr (withMeans q (newMeans q y n rows .values)) y n rows .check) _ (u .1) in
-      rw (u .0, v .0) (record { labels = refl; order = refl; blocks = refl; variances = refl })
-
 -- ---- the second time round
 
-module _ (y : List Float) (n : ℕ) (rows : ℕ → List Float) (q : MsarParams) {once : Built} (first : once ≡ improved y n rows q) (passed : once .check ≡ Passed) where
-  pub once-alike : Alike (once .params) q
-  once-alike = subst (λ (b : Built). b .check ≡ Passed → Alike (b .params) q) (sym first) (improved-alike y n rows q) passed
+pub once-alike : (q : MsarParams) (g : Gaussian) → Alike (withGaussian q g) q
+once-alike q g = record { labels = refl; order = refl; blocks = refl; variances = refl }
 
 pub still-ready : {q′ q : MsarParams} {y : List Float} {floor : Float} {power n lent : ℕ} → Alike q′ q → Ready q y floor power n lent
     → Ready q′ y floor power n lent
@@ -86,44 +70,23 @@ still-ready {q′} {q} {n = n} {lent = lent} a r =
       variances = subst (λ (x : ℕ). x ≤ 16) (sym (a .variances)) (r .variances);
     }
 
--- the rows are those in memory, of as many windows as before
-pub same-rows : {q′ q : MsarParams} (y : List Float) (n : ℕ) (work : List Float) {b : Built} → Alike q′ q
-    → b ≡ improved y n (λ i. drop (filteredFrom (windowsOf q′) i) work) q′ → b ≡ improved y n (λ i. drop (filteredFrom (windowsOf q) i) work) q′
-same-rows {q′} y n work a e = e ∙ ap (λ (m : ℕ). improved y n (λ i. drop (filteredFrom m i) work) q′) (windows-alike a)
-
--- ---- what the constructor builds
-
-built-checked : (c : Check) (q : MsarParams) → c ≡ parameterCheck q → builtAfter c q .check ≡ Passed
-    → (parameterCheck q ≡ Passed) × (builtAfter c q .params ≡ tidy q)
-built-checked Passed q e d = (sym e, refl)
-built-checked (Failed r) q e d = (cc, cc)
-
-tidy-alike : (q : MsarParams) → Alike (tidy q) q
-unfolding tidy
-tidy-alike q = record { labels = refl; order = refl; blocks = refl; variances = refl }
+-- ---- the counts stay, and the parameters pass their checks
 
 pub record Good (q′ q : MsarParams) : Type 0 where
   pub alike : Alike q′ q
   pub checked : parameterCheck q′ ≡ Passed
-
-pub built-good : (q : MsarParams) → builtOf q .check ≡ Passed → Good (builtOf q .params) q
-unfolding builtOf
-built-good q e =
-    let c = built-checked (parameterCheck q) q refl e in
-    rw (c .1) (record { alike = tidy-alike q; checked = again q (c .0) })
 
 module _ (y : List Float) (n : ℕ) (rows : ℕ → List Float) (q : MsarParams) where
   pub step-good : stepOf y n rows q .check ≡ Passed → Good (stepOf y n rows q .params) q
   unfolding stepOf
   step-good e =
       let once = improved y n rows q in
-      let twice = improved y n rows (once .params) in
+      let twice = improved y n rows (withGaussian q once) in
+      let next = withTables q (newTransition q n rows) (twice .means) (twice .ar) (twice .variances) in
       let u = leads-passed (once .check) _ e in
       let v = leads-passed (twice .check) _ (u .1) in
-      let a = alike-twice (improved-alike y n rows (once .params) (v .0)) (improved-alike y n rows q (u .0)) in
-      let b = built-good (withTransition (twice .params) (newTransition q n rows)) (v .1) in
-      let a′ : Alike (withTransition (twice .params) (newTransition q n rows)) q = record { labels = a .labels; order = a .order; blocks = a .blocks; variances = a .variances } in
-      rw (u .0, v .0) (record { alike = alike-twice (b .alike) a′; checked = b .checked })
+      let w = leads-passed (parameterCheck next) _ (v .1) in
+      rw (u .0, v .0, w .0) (record { alike = record { labels = refl; order = refl; blocks = refl; variances = refl }; checked = w .0 })
 
 -- ---- rows that hold the same in their first m places
 
@@ -139,7 +102,4 @@ module _ (y : List Float) (n : ℕ) (rows rows′ : ℕ → List Float) where
   unfolding stepOf
   step-same q pos later same =
       rw (improved-same q pos later same, transition-same q pos n rows rows′ same)
-      (leads-ext (improved y n rows′ q .check) _ _ (λ d.
-      let a = improved-alike y n rows′ q d in
-      rw (improved-same (improved y n rows′ q .params) (subst (λ (x : ℕ). 0 < x) (sym (a .labels)) pos) (subst (λ (x : ℕ). 0 < x) (sym (a .order)) later)
-      (λ i h. subst (λ (x : ℕ). Same x (rows i) (rows′ i)) (sym (windows-alike a)) (same i h))) refl))
+      (rw (improved-same (withGaussian q (improved y n rows′ q)) pos later same) refl)

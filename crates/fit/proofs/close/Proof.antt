@@ -2,20 +2,12 @@ use Rattle.fit.proofs.OnePass.{rest-kept}
 use Rattle.model.proofs.Runs.{rows-fit, all-cleared, windows-split, run-says, smoothed-as-found, smoothed-is}
 use Rattle.number.proofs.Table.{fill-long}
 use native.Mathlib.Nat.{mul-le-mul}
-use Prim.Native.Nat.{ℕ, zero, suc, _+_, _*_, _-_, _/_, _%_, _^_, _<_, _≤_}
-use mathlib.Core.Path.{_≡_, refl, sym, ap, subst, _∙_}
-use mathlib.Core.List.{List, [], _∷_, _++_}
+use Prim.Native.Nat.{_*_, _-_, _/_, _<_, _≤_}
+use mathlib.Core.Path.{_∙_}
 use native.Mathlib.Omega.{arith}
-use borrow.Author.Needs.{needs, scaled-fits}
-use lib.ListN.{length, getD, set, replicate, take, drop}
+use borrow.Author.Needs.{needs}
 use Rattle.fit.proofs.close.Statement.{statement}
 use Rattle.fit.proofs.close.Tie as tie
-use Rattle.fit.proofs.close.Reads as reads
-use Rattle.fit.proofs.close.Lts as lts
-use Rattle.filter.proofs.run.Reads as run-reads
-use Rattle.rows.proofs.clear.Reads as clear-reads
-use Rattle.rows.proofs.tabulate.Reads as tabulate-reads
-use Rattle.smoother.proofs.smooth.Reads as smooth-reads
 
 -- HELP
 work-small : (c : tie.Start) → 3 * (c .args .n * c .args .m) < 4294967296

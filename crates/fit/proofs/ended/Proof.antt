@@ -1,16 +1,8 @@
 use Rattle.fit.proofs.Ends.{ended-passed, ended-by-refusal}
-use Prim.Native.Nat.{ℕ, zero, suc, _+_, _*_, _-_, _/_, _%_, _^_, _<_, _≤_}
-use mathlib.Core.Path.{_≡_, refl, sym, ap, subst, _∙_}
-use mathlib.Core.List.{List, [], _∷_, _++_}
-use native.Mathlib.Omega.{arith}
-use borrow.Author.Needs.{needs, scaled-fits}
-use lib.ListN.{length, getD, set, replicate, take, drop}
+use Prim.Native.Nat.{_-_, _/_}
+use borrow.Author.Needs.{needs}
 use Rattle.fit.proofs.ended.Statement.{statement}
 use Rattle.fit.proofs.ended.Tie as tie
-use Rattle.fit.proofs.ended.Reads as reads
-use Rattle.fit.proofs.ended.Lts as lts
-use Rattle.fit.proofs.answered.Reads as answered-reads
-use Rattle.fit.proofs.refused.Reads as refused-reads
 
 -- src/lib.rt:262:26
 enum-told : tie.Need-enum-told

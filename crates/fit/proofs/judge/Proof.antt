@@ -1,17 +1,10 @@
 use Rattle.fit.proofs.OnePass.{never}
 use Rattle.fit.proofs.OnePass.{run-refused, run-passed}
-use Prim.Native.Nat.{ℕ, zero, suc, _+_, _*_, _-_, _/_, _%_, _^_, _<_, _≤_}
-use mathlib.Core.Path.{_≡_, refl, sym, ap, subst, _∙_}
-use mathlib.Core.List.{List, [], _∷_, _++_}
-use native.Mathlib.Omega.{arith}
-use borrow.Author.Needs.{needs, scaled-fits}
-use lib.ListN.{length, getD, set, replicate, take, drop}
+use Prim.Native.Nat.{_-_, _/_}
+use mathlib.Core.Path.{refl}
+use borrow.Author.Needs.{needs}
 use Rattle.fit.proofs.judge.Statement.{statement}
 use Rattle.fit.proofs.judge.Tie as tie
-use Rattle.fit.proofs.judge.Reads as reads
-use Rattle.fit.proofs.judge.Lts as lts
-use Rattle.filter.proofs.run.Reads as run-reads
-use Rattle.fit.proofs.verdict_of.Reads as verdict-of-reads
 
 -- src/lib.rt:115:9
 run-requires : tie.Need-run-requires

@@ -3,19 +3,13 @@ use Rattle.fit.proofs.OnePass.{pass-converged, pass-refused, pass-step-
 use Rattle.step.proofs.Kept.{windows-alike, still-ready}
 use Rattle.fit.specs.declared.Course.the-variants.{Going}
 use Rattle.fit.specs.Fit.{passesTo}
-use Prim.Native.Nat.{ℕ, zero, suc, _+_, _*_, _-_, _/_, _%_, _^_, _<_, _≤_}
-use mathlib.Core.Path.{_≡_, refl, sym, ap, subst, _∙_}
-use mathlib.Core.List.{List, [], _∷_, _++_}
+use Prim.Native.Nat.{_*_, _-_, _/_, _≤_}
+use mathlib.Core.Path.{_≡_, refl, sym, ap, _∙_}
 use native.Mathlib.Omega.{arith}
-use borrow.Author.Needs.{needs, scaled-fits}
-use lib.ListN.{length, getD, set, replicate, take, drop}
+use borrow.Author.Needs.{needs}
+use lib.ListN.{length, drop}
 use Rattle.fit.proofs.passes.Statement.{statement}
 use Rattle.fit.proofs.passes.Tie as tie
-use Rattle.fit.proofs.passes.Reads as reads
-use Rattle.fit.proofs.passes.Lts as lts
-use Rattle.fit.proofs.judge.Reads as judge-reads
-use Rattle.smoother.proofs.smooth.Reads as smooth-reads
-use Rattle.step.proofs.step.Reads as step-reads
 
 abbrev Inv-loop : tie.InvT-loop
 Inv-loop max-iter tol y floor power m n work₀ q₀ last₀ i₀ work q last i = (i ≤ max-iter) × (record { course = Going; params = q; loglik = last } ≡ passesTo y tol q₀ i) × (length work ≡ length work₀) × (drop (2 * n * m) work ≡ drop (2 * n * m) work₀)

@@ -1,24 +1,13 @@
-use Rattle.fit.proofs.Ends.{closing-is, closing-ready, ended-going, ended-converged, ended-refused, table-going, table-converged, table-refused}
-use Rattle.fit.proofs.Going.{going-good, converged-good}
+use Rattle.fit.proofs.Ends.{closing-is, closing-ready, end-good, end-passed, end-refused, table-passed, table-refused}
 use Rattle.model.proofs.Runs.{all-cleared}
 use Rattle.number.specs.Number.{zero⁺}
 use native.Mathlib.Nat.{mul-le-mul}
 use mathlib.Core.Bool.{false}
-use Prim.Native.Nat.{ℕ, zero, suc, _+_, _*_, _-_, _/_, _%_, _^_, _<_, _≤_}
-use mathlib.Core.Path.{_≡_, refl, sym, ap, subst, _∙_}
-use mathlib.Core.List.{List, [], _∷_, _++_}
+use Prim.Native.Nat.{zero, _*_, _-_, _/_, _<_, _≤_}
 use native.Mathlib.Omega.{arith}
-use borrow.Author.Needs.{needs, scaled-fits}
-use lib.ListN.{length, getD, set, replicate, take, drop}
+use borrow.Author.Needs.{needs}
 use Rattle.fit.proofs.run_fit.Statement.{statement}
 use Rattle.fit.proofs.run_fit.Tie as tie
-use Rattle.fit.proofs.run_fit.Reads as reads
-use Rattle.fit.proofs.run_fit.Lts as lts
-use Rattle.fit.proofs.close.Reads as close-reads
-use Rattle.fit.proofs.ended.Reads as ended-reads
-use Rattle.fit.proofs.passes.Reads as passes-reads
-use Rattle.fit.proofs.refused.Reads as refused-reads
-use Rattle.rows.proofs.clear.Reads as clear-reads
 
 -- HELP
 work-small : (c : tie.Start) → 3 * (c .args .n * c .args .m) < 4294967296
@@ -26,107 +15,82 @@ work-small c = let n : c .args .n ≤ 4096 = omega (arith, c .pre .0 .rows-are, 
 
 -- END
 
--- src/lib.rt:288:9
+-- src/lib.rt:317:9
 passes-requires : tie.Need-passes-requires
 passes-requires c κs = (c .before .before .before .before .pre .0, (c .before .before .before .before .pre .1 .0, c .before .before .before .before .pre .1 .1, c .before .before .before .before .pre .1 .2))
 
--- src/lib.rt:293:51
-enum-told : tie.Need-enum-told
-enum-told c = search needs
+-- src/lib.rt:319:9
+end-of-requires : tie.Need-end-of-requires
+end-of-requires c κs = search needs
 
--- src/lib.rt:293:17
-close-requires : tie.Need-close-requires
-close-requires c κs = let s = c .before .before .before .before .before .before .before .before .before .before .before in let did = c .before .before .before .before .before .before .passes .ensures in let good = going-good (s .args .start) _ _ (s .pre .1 .2) _ (did .0) (c .before .before .enum-told .given .1) in let r = closing-ready (good .alike) (s .pre .0) (s .pre .1 .0) (s .pre .1 .3) (s .pre .1 .4) (did .1 .0) in (r .shape, (r .windows-are, r .power-is, r .rows-are, r .short, r .work-fits, r .table-fits, s .pre .1 .1))
+-- src/lib.rt:322:23
+enum-known-check : tie.Need-enum-known-check
+enum-known-check c = search needs
 
--- src/lib.rt:294:13
-ended-requires : tie.Need-ended-requires
-ended-requires c κs = let s = c .before .before .before .before .before .before .before .before .before .before .before .before .before .before .before .before in going-good (s .args .start) _ _ (s .pre .1 .2) _ (c .before .before .before .before .before .before .before .before .before .before .before .passes .ensures .0) (c .before .before .before .before .before .before .before .enum-told .given .1) .checked
-
--- src/lib.rt:296:27
-enum-known-course : tie.Need-enum-known-course
-enum-known-course c = search needs
-
--- src/lib.rt:297:17
-close-requires-2 : tie.Need-close-requires-2
-close-requires-2 c κs = let s = c .before .before .before .before .before .before .before .before .before .before .before .before in let did = c .before .before .before .before .before .before .before .passes .ensures in let good = converged-good (s .args .start) _ _ (s .pre .1 .2) _ (did .0) (c .before .before .before .course .given .1) .0 in let r = closing-ready (good .alike) (s .pre .0) (s .pre .1 .0) (s .pre .1 .3) (s .pre .1 .4) (did .1 .0) in (r .shape, (r .windows-are, r .power-is, r .rows-are, r .short, r .work-fits, r .table-fits, s .pre .1 .1))
-
--- src/lib.rt:298:13
-ended-requires-2 : tie.Need-ended-requires-2
-ended-requires-2 c κs = let s = c .before .before .before .before .before .before .before .before .before .before .before .before .before .before .before .before .before in converged-good (s .args .start) _ _ (s .pre .1 .2) _ (c .before .before .before .before .before .before .before .before .before .before .before .before .passes .ensures .0) (c .before .before .before .before .before .before .before .before .course .given .1) .0 .checked
-
--- src/lib.rt:300:25
-enum-known-course-2 : tie.Need-enum-known-course-2
-enum-known-course-2 c = search needs
-
--- src/lib.rt:301:36
+-- src/lib.rt:323:36
 mul-clear : tie.Need-mul-clear
-mul-clear c = omega (arith, work-small (c .before .before .before .before .before .before .before .before .before .before .before))
+mul-clear c = omega (arith, work-small (c .before .before .before .before .before .before .before .before .before .before .before .before))
 
--- src/lib.rt:301:31
+-- src/lib.rt:323:31
 mul-clear-2 : tie.Need-mul-clear-2
-mul-clear-2 c = omega (arith, work-small (c .before .before .before .before .before .before .before .before .before .before .before))
+mul-clear-2 c = omega (arith, work-small (c .before .before .before .before .before .before .before .before .before .before .before .before))
 
--- src/lib.rt:301:13
+-- src/lib.rt:323:13
 clear-requires : tie.Need-clear-requires
-clear-requires c κs = omega (arith, c .before .before .before .before .before .before .before .before .before .before .before .pre .1 .3, c .before .before .before .before .before .before .passes .ensures .1 .0)
+clear-requires c κs = omega (arith, c .before .before .before .before .before .before .before .before .before .before .before .before .pre .1 .3, c .before .before .before .before .before .before .before .passes .ensures .1 .0)
 
--- src/lib.rt:302:13
+-- src/lib.rt:324:13
 refused-requires : tie.Need-refused-requires
 refused-requires c κs = search needs
 
--- src/lib.rt:270:1
+-- src/lib.rt:327:58
+enum-told : tie.Need-enum-told
+enum-told c = search needs
+
+-- src/lib.rt:327:17
+close-requires : tie.Need-close-requires
+close-requires c κs = let s = c .before .before .before .before .before .before .before .before .before .before .before .before in let did = c .before .before .before .before .before .before .before .passes .ensures in let good = end-good _ _ _ (s .args .start) (did .0) (c .before .before .before .before .end-of .ensures) (s .pre .1 .2) (c .before .before .enum-told .given .1) in let r = closing-ready (good .alike) (s .pre .0) (s .pre .1 .0) (s .pre .1 .3) (s .pre .1 .4) (did .1 .0) in (r .shape, (r .windows-are, r .power-is, r .rows-are, r .short, r .work-fits, r .table-fits, s .pre .1 .1))
+
+-- src/lib.rt:328:13
+ended-requires : tie.Need-ended-requires
+ended-requires c κs = let s = c .before .before .before .before .before .before .before .before .before .before .before .before .before .before .before .before .before in end-good _ _ _ (s .args .start) (c .before .before .before .before .before .before .before .before .before .before .before .before .passes .ensures .0) (c .before .before .before .before .before .before .before .before .before .end-of .ensures) (s .pre .1 .2) (c .before .before .before .before .before .before .before .enum-told .given .1) .checked
+
+-- src/lib.rt:299:1
 same-length : tie.Need-same-length
 same-length c = search needs
 
--- src/lib.rt:270:1
+-- src/lib.rt:299:1
+returns : tie.Need-returns
+returns c = let start = c .before .before .before .before .before .before .before .before .before .before .before .before .before .before .before .before .args .start in let did = c .before .before .before .before .before .before .before .before .before .before .before .passes .ensures in let end = c .before .before .before .before .before .before .before .before .end-of .ensures in let gone = c .before .before .before .before .before .before .check .given .1 in (end-refused _ _ _ start (did .0) end gone (c .refused .ensures start zero⁺ 0 false), (all-cleared _ _ _ _ (did .1 .1) (c .before .before .before .clear .ensures), table-refused _ _ _ start (did .0) end _ gone))
+
+-- src/lib.rt:299:1
 same-length-2 : tie.Need-same-length-2
 same-length-2 c = search needs
 
--- src/lib.rt:270:1
-returns : tie.Need-returns
-returns c = let start = c .before .before .before .before .before .before .before .before .before .before .before .before .before .before .before .before .before .args .start in let did = c .before .before .before .before .before .before .before .before .before .before .before .before .passes .ensures in let going = c .before .before .before .before .before .before .before .before .enum-told .given .1 in let closing = c .before .before .before .before .before .close .ensures in (ended-going _ _ _ start (did .0) going (closing-is _ (c .before .before .before .before .before .before .before .before .before .before .before .before .passes .result .params) _ _ (closing .0) (c .ended .ensures)), (all-cleared _ _ _ _ (did .1 .1) (closing .1 .0), table-going _ _ _ start (did .0) _ going (closing .1 .1)))
-
--- src/lib.rt:270:1
+-- src/lib.rt:299:1
 same-length-3 : tie.Need-same-length-3
 same-length-3 c = search needs
 
--- src/lib.rt:270:1
-same-length-4 : tie.Need-same-length-4
-same-length-4 c = search needs
-
--- src/lib.rt:270:1
+-- src/lib.rt:299:1
 returns-2 : tie.Need-returns-2
-returns-2 c = let start = c .before .before .before .before .before .before .before .before .before .before .before .before .before .before .before .before .before .before .args .start in let did = c .before .before .before .before .before .before .before .before .before .before .before .before .before .passes .ensures in let gone = c .before .before .before .before .before .before .before .before .before .course .given .1 in let closing = c .before .before .before .before .before .close2 .ensures in (ended-converged _ _ _ start (did .0) gone (closing-is _ (c .before .before .before .before .before .before .before .before .before .before .before .before .before .passes .result .params) _ _ (closing .0) (c .ended2 .ensures)), (all-cleared _ _ _ _ (did .1 .1) (closing .1 .0), table-converged _ _ _ start (did .0) _ gone (closing .1 .1)))
-
--- src/lib.rt:270:1
-same-length-5 : tie.Need-same-length-5
-same-length-5 c = search needs
-
--- src/lib.rt:270:1
-returns-3 : tie.Need-returns-3
-returns-3 c = let start = c .before .before .before .before .before .before .before .before .before .before .before .before .before .before .before .args .start in let did = c .before .before .before .before .before .before .before .before .before .before .passes .ensures in let gone = c .before .before .before .before .before .before .course2 .given .1 in (ended-refused _ _ _ start (did .0) gone (c .refused .ensures start zero⁺ 0 false), (all-cleared _ _ _ _ (did .1 .1) (c .before .before .before .clear .ensures), table-refused _ _ _ start (did .0) _ gone))
+returns-2 c = let start = c .before .before .before .before .before .before .before .before .before .before .before .before .before .before .before .before .before .before .args .start in let did = c .before .before .before .before .before .before .before .before .before .before .before .before .before .passes .ensures in let end = c .before .before .before .before .before .before .before .before .before .before .end-of .ensures in let passed = c .before .before .before .before .before .before .before .before .enum-told .given .1 in let closing = c .before .before .before .before .before .close .ensures in (end-passed _ _ _ start (did .0) end passed (closing-is _ (c .before .before .before .before .before .before .before .before .before .before .before .before .before .passes .result .params) _ _ (closing .0) (c .ended .ensures)), (all-cleared _ _ _ _ (did .1 .1) (closing .1 .0), table-passed _ _ _ start (did .0) end _ passed (closing .1 .1)))
 
 pub run-fit-spec : {M : Type 1} → statement M
 run-fit-spec =
     tie.close
     (tie.spec
     passes-requires
-    enum-told
-    close-requires
-    ended-requires
-    enum-known-course
-    close-requires-2
-    ended-requires-2
-    enum-known-course-2
+    end-of-requires
+    enum-known-check
     mul-clear
     mul-clear-2
     clear-requires
     refused-requires
+    enum-told
+    close-requires
+    ended-requires
     same-length
-    same-length-2
     returns
+    same-length-2
     same-length-3
-    same-length-4
-    returns-2
-    same-length-5
-    returns-3)
+    returns-2)

@@ -1,17 +1,10 @@
 use Rattle.fit.proofs.OnePass.{not-finite, converges, goes}
 use borrow.Author.Tests.{not-true, not-false}
-use Prim.Native.Nat.{ℕ, zero, suc, _+_, _*_, _-_, _/_, _%_, _^_, _<_, _≤_}
-use mathlib.Core.Path.{_≡_, refl, sym, ap, subst, _∙_}
-use mathlib.Core.List.{List, [], _∷_, _++_}
-use native.Mathlib.Omega.{arith}
-use borrow.Author.Needs.{needs, scaled-fits}
-use lib.ListN.{length, getD, set, replicate, take, drop}
+use Prim.Native.Nat.{_-_, _/_}
+use mathlib.Core.Path.{sym, _∙_}
+use borrow.Author.Needs.{needs}
 use Rattle.fit.proofs.verdict_of.Statement.{statement}
 use Rattle.fit.proofs.verdict_of.Tie as tie
-use Rattle.fit.proofs.verdict_of.Reads as reads
-use Rattle.fit.proofs.verdict_of.Lts as lts
-use Rattle.fit.proofs.stops.Reads as stops-reads
-use Rattle.number.proofs.is_finite.Reads as is-finite-reads
 
 -- src/lib.rt:78:9
 is-finite-requires : tie.Need-is-finite-requires

@@ -5,49 +5,49 @@ use borrow.Author.Needs.{needs}
 use Rattle.step.proofs.improve.Statement.{statement}
 use Rattle.step.proofs.improve.Tie as tie
 
--- src/lib.rt:17:9
+-- src/lib.rt:39:9
 new-means-requires : tie.Need-new-means-requires
 new-means-requires c κs = let r = c .before .before .pre in (r .shape, (r .power-is, r .rows-are, r .short, r .fits))
 
--- src/lib.rt:19:26
+-- src/lib.rt:41:26
 enum-known-check : tie.Need-enum-known-check
 enum-known-check c = search needs
 
--- src/lib.rt:20:9
-refused-requires : tie.Need-refused-requires
-refused-requires c κs = search needs
+-- src/lib.rt:42:9
+unsolved-requires : tie.Need-unsolved-requires
+unsolved-requires c κs = search needs
 
--- src/lib.rt:20:9
+-- src/lib.rt:42:9
 returns : tie.Need-returns
-returns c = means-refused _ _ _ (c .before .before .before .before .before .before .before .args .q) (c .before .before .before .before .new-means .ensures) (c .before .before .check .given .1) (c .refused .ensures)
+returns c = means-refused _ _ _ (c .before .before .before .before .before .before .before .args .q) (c .before .before .before .before .new-means .ensures) (c .before .before .check .given .1) (c .unsolved .ensures)
 
 enum-told : tie.Need-enum-told
 enum-told c = search needs
 
--- src/lib.rt:25:9
+-- src/lib.rt:47:9
 new-ar-requires : tie.Need-new-ar-requires
 new-ar-requires c κs = let r = c .before .before .before .before .before .before .pre in (r .shape, (r .power-is, r .lagged, r .rows-are, r .short, r .fits, r .blocks))
 
--- src/lib.rt:27:26
+-- src/lib.rt:49:26
 enum-known-check-2 : tie.Need-enum-known-check-2
 enum-known-check-2 c = search needs
 
--- src/lib.rt:28:9
-refused-requires-2 : tie.Need-refused-requires-2
-refused-requires-2 c κs = search needs
+-- src/lib.rt:50:9
+unsolved-requires-2 : tie.Need-unsolved-requires-2
+unsolved-requires-2 c κs = search needs
 
--- src/lib.rt:28:9
+-- src/lib.rt:50:9
 returns-2 : tie.Need-returns-2
-returns-2 c = ar-refused _ _ _ (c .before .before .before .before .before .before .before .before .before .before .before .args .q) (c .before .before .before .before .before .before .before .before .new-means .ensures) (c .before .before .before .before .before .before .enum-told .given .1) (c .before .before .before .before .new-ar .ensures) (c .before .before .check2 .given .1) (c .refused2 .ensures)
+returns-2 c = ar-refused _ _ _ (c .before .before .before .before .before .before .before .before .before .before .before .args .q) (c .before .before .before .before .before .before .before .before .new-means .ensures) (c .before .before .before .before .before .before .enum-told .given .1) (c .before .before .before .before .new-ar .ensures) (c .before .before .check2 .given .1) (c .unsolved2 .ensures)
 
 enum-told-2 : tie.Need-enum-told-2
 enum-told-2 c = search needs
 
--- src/lib.rt:32:9
+-- src/lib.rt:54:9
 new-variances-requires : tie.Need-new-variances-requires
 new-variances-requires c κs = let r = c .before .before .before .before .before .before .before .before .before .before .pre in (r .shape, (r .floor-is, r .power-is, r .rows-are, r .short, r .fits, r .variances))
 
--- src/lib.rt:13:1
+-- src/lib.rt:35:1
 returns-3 : tie.Need-returns-3
 returns-3 c = all-improved _ _ _ (c .before .before .before .before .before .before .before .before .before .before .before .args .q) (c .before .before .before .before .before .before .before .before .new-means .ensures) (c .before .before .before .before .before .before .enum-told .given .1) (c .before .before .before .before .new-ar .ensures) (c .before .before .enum-told2 .given .1) (c .new-variances .ensures) refl
 
@@ -57,12 +57,12 @@ improve-spec =
     (tie.spec
     new-means-requires
     enum-known-check
-    refused-requires
+    unsolved-requires
     returns
     enum-told
     new-ar-requires
     enum-known-check-2
-    refused-requires-2
+    unsolved-requires-2
     returns-2
     enum-told-2
     new-variances-requires

@@ -1,4 +1,4 @@
-use Rattle.step.proofs.Kept.{once-alike, still-ready, same-rows}
+use Rattle.step.proofs.Kept.{once-alike, still-ready}
 use Rattle.step.proofs.Ways.{first-refused, second-refused, stepped}
 use Prim.Native.Nat.{_-_, _/_}
 use native.Mathlib.Omega.{arith}
@@ -6,60 +6,70 @@ use borrow.Author.Needs.{needs}
 use Rattle.step.proofs.step.Statement.{statement}
 use Rattle.step.proofs.step.Tie as tie
 
--- src/lib.rt:46:9
+-- src/lib.rt:69:9
 improve-requires : tie.Need-improve-requires
-improve-requires c κs = search needs
+improve-requires c κs = c .before .before .pre
 
--- src/lib.rt:49:9
+-- src/lib.rt:71:26
+enum-known-check : tie.Need-enum-known-check
+enum-known-check c = search needs
+
+-- src/lib.rt:72:9
+refused-requires : tie.Need-refused-requires
+refused-requires c κs = search needs
+
+-- src/lib.rt:72:9
+returns : tie.Need-returns
+returns c = first-refused _ _ _ (c .before .before .before .before .before .before .before .args .q) (c .before .before .before .before .improve .ensures) (c .before .before .check .given .1) (c .refused .ensures)
+
 enum-told : tie.Need-enum-told
 enum-told c = search needs
 
--- src/lib.rt:49:9
-returns : tie.Need-returns
-returns c = first-refused _ _ _ (c .before .before .before .before .before .args .q) (c .before .before .improve .ensures) (c .enum-told .given .1)
+-- src/lib.rt:81:9
+improve-requires-2 : tie.Need-improve-requires-2
+improve-requires-2 c κs = still-ready (once-alike (c .before .before .before .before .before .before .before .before .args .q) (c .before .before .before .before .before .improve .result)) (c .before .before .before .before .before .before .before .before .pre)
+
+-- src/lib.rt:83:26
+enum-known-check-2 : tie.Need-enum-known-check-2
+enum-known-check-2 c = search needs
+
+-- src/lib.rt:84:9
+refused-requires-2 : tie.Need-refused-requires-2
+refused-requires-2 c κs = search needs
+
+-- src/lib.rt:84:9
+returns-2 : tie.Need-returns-2
+returns-2 c = second-refused _ _ _ (c .before .before .before .before .before .before .before .before .before .before .before .before .before .args .q) (c .before .before .before .before .before .before .before .before .before .before .improve .ensures) (c .before .before .before .before .before .before .before .before .enum-told .given .1) (c .before .before .before .before .improve2 .ensures) (c .before .before .check2 .given .1) (c .refused2 .ensures)
 
 enum-told-2 : tie.Need-enum-told-2
 enum-told-2 c = search needs
 
--- src/lib.rt:51:9
-improve-requires-2 : tie.Need-improve-requires-2
-improve-requires-2 c κs = still-ready (once-alike _ _ _ (c .before .before .before .before .before .args .q) (c .before .before .improve .ensures) (c .enum-told2 .given .1)) (c .before .before .before .before .before .pre)
-
--- src/lib.rt:54:9
-enum-told-3 : tie.Need-enum-told-3
-enum-told-3 c = search needs
-
--- src/lib.rt:54:9
-returns-2 : tie.Need-returns-2
-returns-2 c = let first = c .before .before .before .before .before .improve .ensures in let passed = c .before .before .before .enum-told2 .given .1 in second-refused _ _ _ (c .before .before .before .before .before .before .before .before .args .q) first passed (same-rows _ _ _ (once-alike _ _ _ (c .before .before .before .before .before .before .before .before .args .q) first passed) (c .before .before .improve2 .ensures)) (c .enum-told3 .given .1)
-
-enum-told-4 : tie.Need-enum-told-4
-enum-told-4 c = search needs
-
--- src/lib.rt:57:9
+-- src/lib.rt:92:9
 new-transition-requires : tie.Need-new-transition-requires
-new-transition-requires c κs = let r = c .before .before .before .before .before .before .before .before .before .pre in (r .shape, (r .lagged, r .power-is, omega (arith, r .rows-are, r .short), r .fits))
+new-transition-requires c κs = let r = c .before .before .before .before .before .before .before .before .before .before .before .before .before .before .pre in (r .shape, (r .lagged, r .power-is, omega (arith, r .rows-are, r .short), r .fits))
 
--- src/lib.rt:59:5
-new-requires : tie.Need-new-requires
-new-requires c κs = search needs
+-- src/lib.rt:94:5
+checked-requires : tie.Need-checked-requires
+checked-requires c κs = search needs
 
--- src/lib.rt:42:1
+-- src/lib.rt:65:1
 returns-3 : tie.Need-returns-3
-returns-3 c = let first = c .before .before .before .before .before .before .before .before .improve .ensures in let passed = c .before .before .before .before .before .before .enum-told2 .given .1 in stepped _ _ _ (c .before .before .before .before .before .before .before .before .before .before .before .args .q) first passed (same-rows _ _ _ (once-alike _ _ _ (c .before .before .before .before .before .before .before .before .before .before .before .args .q) first passed) (c .before .before .before .before .before .improve2 .ensures)) (c .before .before .before .enum-told4 .given .1) (c .before .new-transition .ensures) (c .new .ensures)
+returns-3 c = stepped _ _ _ (c .before .before .before .before .before .before .before .before .before .before .before .before .before .before .before .before .args .q) (c .before .before .before .before .before .before .before .before .before .before .before .before .before .improve .ensures) (c .before .before .before .before .before .before .before .before .before .before .before .enum-told .given .1) (c .before .before .before .before .before .before .before .improve2 .ensures) (c .before .before .before .before .before .enum-told2 .given .1) (c .before .new-transition .ensures) (c .checked .ensures)
 
 pub step-spec : {M : Type 1} → statement M
 step-spec =
     tie.close
     (tie.spec
     improve-requires
-    enum-told
+    enum-known-check
+    refused-requires
     returns
-    enum-told-2
+    enum-told
     improve-requires-2
-    enum-told-3
+    enum-known-check-2
+    refused-requires-2
     returns-2
-    enum-told-4
+    enum-told-2
     new-transition-requires
-    new-requires
+    checked-requires
     returns-3)
