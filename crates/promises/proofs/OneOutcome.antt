@@ -73,6 +73,7 @@ use Rattle.coefficients.proofs.new_ar as coefficients·new_ar
 use Rattle.variances.proofs.new_variances as variances·new_variances
 use Rattle.step.proofs.step as step·step
 use Rattle.fit.proofs.fit as fit·fit
+use Rattle.markov.proofs.Unique as markov
 use Rattle.promises.specs.OneOutcome.{OneOutcome, OneOutcomeAsked}
 
 -- the logic's own parts, which a contract is stated over: any
@@ -146,6 +147,8 @@ module _ {M : Type 1} (𝓤 : URA M) (H : Heap 𝓤) (A : Atoms 𝓤) (mem : Mem
     -- the step, and the fit
     pub step : One step·step.ended (step·step.clauses 𝓤 H)
     pub fit : One fit·fit.ended (fit·fit.clauses 𝓤 H)
+    -- the record over the calls
+    pub over-record : markov.EachHasOne 𝓤 H A mem run
 
   -- two facts together
   both : {φ ψ χ : Type 0} → (φ → ψ → χ) → ent 𝓤 (conj 𝓤 (fact 𝓤 φ) (fact 𝓤 ψ)) (fact 𝓤 χ)
@@ -225,4 +228,5 @@ module _ {M : Type 1} (𝓤 : URA M) (H : Heap 𝓤) (A : Atoms 𝓤) (mem : Mem
         new-variances = λ κs a g r r′ ws ws′. both (λ e e′. (one-outcome e e′, refl));
         step = λ κs a g r r′ ws ws′. both (λ e e′. (one-outcome e e′, refl));
         fit = λ κs a g r r′ ws ws′. both (λ e e′. let o = e ∙ sym e′ in (ap (λ (x : FitOutcome). x .answer) o, λ i. (tt, (tt, (tt, (tt, (tt, (o i .work, (o i .smoothed, tt)))))))));
+        over-record = markov.each-has-one 𝓤 H A mem run;
       }
