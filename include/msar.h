@@ -1,12 +1,13 @@
-/* The library's functions for C: link libc_interface.a, which `rt staticlib c_interface` writes. Each function is proved
-   equal to its definition in Rattle; this file only says the same in C.
+/* The library's functions for C: link libmsar.a, for x86-64, which `bin/firmware FOLDER` makes and lays beside a copy of
+   this file. Each function is proved equal to its definition in Rattle; this file only says the same in C.
 
    Every call returns, whatever the numbers are, allocates nothing, keeps nothing between calls, and writes no memory but
    its arrays that are not const. A call uses less than 64 KiB of stack. No pointer may be null, no lent array may overlap
    another array of the same call, and behind each pointer there must be as many elements as this file says. The rounding
-   mode must be to nearest, and subnormal numbers must not be flushed to zero (as -ffast-math does): both are so unless the
-   program changed it. Which NaN is returned is not fixed: its sign and payload may differ from call to call, so test for a
-   NaN and do not compare its bits. A size_t must have 64 bits. */
+   mode must be to nearest, subnormal numbers must not be flushed to zero (as -ffast-math does), and floating-point
+   exceptions must be masked, that is, not trapped (where they are, an infinite reading ends in SIGFPE): all three are so
+   unless the program changed it. Which NaN is returned is not fixed: its sign and payload may differ from call to call, so
+   test for a NaN and do not compare its bits. A size_t must have 64 bits. */
 #ifndef MSAR_H
 #define MSAR_H
 
@@ -102,8 +103,9 @@ void msar_smooth(size_t k, size_t order, bool switching_ar, bool switching_varia
 /* A fit by EM from the parameters in numbers: at most max_iter passes, then a closing one at the parameters reached. From
    the second pass on it stops as converged where the log-likelihood gained at most tol; a NaN tol never stops it. smoothed:
    the probabilities of the labels given all readings, under the parameters reached. fitted[400]: these, laid out as numbers
-   and with the same counts, unused places +0; as found on a refusal. iterations: the passes begun, the stopping one
-   included. With max_iter 0 the parameters are the start's. The log-likelihood is the closing pass's. */
+   and with the same counts, unused places +0; as found on a refusal. fitted may not be numbers, since lent arrays may not
+   overlap. iterations: the passes begun, the stopping one included. With max_iter 0 the parameters are the start's. The
+   log-likelihood is the closing pass's. */
 void msar_fit(size_t k, size_t order, bool switching_ar, bool switching_variance, const double *series,
               size_t series_len, const size_t counts[6], const double numbers[400], double *work, size_t work_len,
               double *smoothed, size_t smoothed_len, size_t max_iter, double tol, double fitted[400], size_t whole[4],
