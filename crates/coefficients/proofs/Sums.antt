@@ -15,6 +15,7 @@ use Rattle.number.specs.Table.{_!_, fillAt}
 use Rattle.number.proofs.Sums.{where-ext}
 use Rattle.number.proofs.Table.{fillAt-ext, fill-at}
 use Rattle.window.specs.Windows.{label, labels}
+use Rattle.window.specs.Time.{timeOf}
 use Rattle.window.proofs.Windows.{label-below}
 use Rattle.rows.specs.Rows.{Same}
 use Rattle.rows.specs.Memory.{filteredFrom}
@@ -83,13 +84,13 @@ module _ (q : MsarParams) (y : List Float) (rows : ℕ → List Float) (i a : �
   unfolding counted inBlock
   test-here b = rw (weight-there q i h rows, label-now)
 
-  module _ (positive : 0 < k q) (d : List Float) {distances : List Float} (e : distances ≡ fillAt 0 (distanceBy (k q) y (p q + i) (q .means)) (suc (p q) * k q) d) where
+  module _ (positive : 0 < k q) (d : List Float) {distances : List Float} (e : distances ≡ fillAt 0 (distanceBy (k q) y (timeOf (p q) (record { 0 = i })) (q .means)) (suc (p q) * k q) d) where
     distance-here : (l : ℕ) → l ≤ p q → distanceOf (k q) (p q) distances a l ≡ distance q y (i * windowsOf q + a) l
     unfolding distanceOf distanceBy
     distance-here l hl =
         let l′ : l < suc (p q) = omega arith in
         let s′ = label-below (k q) positive (suc (p q)) a l l′ in
-        rw (fill-at (distanceBy (k q) y (p q + i) (q .means)) (suc (p q) * k q) d e (l * k q + label (labels (k q) (suc (p q)) a) l) (digits-lt l′ s′), digits-div l s′, digits-mod l s′, digits-div i h, digits-mod i h)
+        rw (fill-at (distanceBy (k q) y (timeOf (p q) (record { 0 = i })) (q .means)) (suc (p q) * k q) d e (l * k q + label (labels (k q) (suc (p q)) a) l) (digits-lt l′ s′), digits-div l s′, digits-mod l s′, digits-div i h, digits-mod i h)
 
     product-here : (l j : ℕ) → l ≤ p q → j ≤ p q
         → precisionOf (k q) (q .«variances_count») (q .variances) (rows i) a ⊗ distanceOf (k q) (p q) distances a l ⊗ distanceOf (k q) (p q) distances a j
@@ -124,7 +125,7 @@ rowsOf q work j = drop (filteredFrom (windowsOf q) j) work
 
 -- a row further
 module _ (q : MsarParams) (y work : List Float) (i m : ℕ) (w : m ≡ windowsOf q) (positive : 0 < k q) (pos : 0 < p q) (d distances : List Float)
-    (ed : distances ≡ fillAt 0 (distanceBy (k q) y (p q + i) (q .means)) (suc (p q) * k q) d) {now now′ : List Float} where
+    (ed : distances ≡ fillAt 0 (distanceBy (k q) y (timeOf (p q) (record { 0 = i })) (q .means)) (suc (p q) * k q) d) {now now′ : List Float} where
   pub tables-more : now ≡ fillAt 0 (tableSum q y (rowsOf q work) (i * windowsOf q)) 784 (replicate 784 zero⁺)
       → now′ ≡ fillAt 0 (λ c. sumOn (now ! c) (counted (k q) (q .«ar_blocks») (drop (filteredFrom m i) work) (c / (p q * p q))) (rowTable (p q) (precisionOf (k q) (q .«variances_count») (q .variances) (drop (filteredFrom m i) work)) (distanceOf (k q) (p q) distances) c) m) 784 now
       → now′ ≡ fillAt 0 (tableSum q y (rowsOf q work) ((i + 1) * windowsOf q)) 784 (replicate 784 zero⁺)

@@ -8,13 +8,14 @@ use lib.Ieee.{Float, ne}
 use Rattle.number.specs.Number.{if_then_else_, _=?_, _⊕_, _⊖_, _⊗_, _⊘_, zero⁺}
 use Rattle.number.specs.Table.{_!_, fillAt}
 use Rattle.window.specs.Windows.{label, labels}
+use Rattle.window.specs.declared.Time.{Time}
 use Rattle.params.specs.Parameters.{blockOf}
 use Rattle.ridge.specs.Ridge.{solveOrKeep}
 use Rattle.ridge.specs.declared.Update.{Update}
 
--- y[t-l] - μ[s] by lag and label, at place l·k + s
-unfoldable pub distanceBy : ℕ → List Float → ℕ → List Float → ℕ → Float
-distanceBy k y t means e = y ! (t - e / k) ⊖ means ! (e % k)
+-- y[t-l] - μ[s] at time t by lag and label, at place l·k + s
+unfoldable pub distanceBy : ℕ → List Float → Time → List Float → ℕ → Float
+distanceBy k y t means e = y ! (t .0 - e / k) ⊖ means ! (e % k)
 
 -- x_l of window a: what stands there for the label s_l
 unfoldable pub distanceOf : ℕ → ℕ → List Float → ℕ → ℕ → Float

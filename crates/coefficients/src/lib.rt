@@ -15,6 +15,8 @@ ghost use Rattle.coefficients.specs.Steps.{distanceBy, distanceOf, table
 use params::MsarParams;
 use refusal::Check;
 use ridge::Update;
+use window::Row;
+use window::Time;
 
 // New coefficients in their places, or the refusal beside zeros.
 pub struct Blocks {
@@ -110,18 +112,19 @@ fn weigh_window(
 // The distances by lag and label at time t: place l·k + s is that of label s at lag l.
 fn distances_at(
     y: &[f64],
-    t: usize,
+    t: Time,
     means: &[f64; 16],
     k: usize,
     order: usize,
     distances: &mut [f64; 128],
 )
-    requires { ⌜ (0 < k) × (k ≤ 16) × (order ≤ 7) × (order ≤ t) × (t < length (now y)) × (length (now distances) ≡ 128) ⌝ }
+    requires { ⌜ (0 < k) × (k ≤ 16) × (order ≤ 7) × (order ≤ t .0) × (t .0 < length (now y)) × (length (now distances) ≡ 128) ⌝ }
     ensures { λ _. ⌜ now (distances .exit) ≡ fillAt 0 (distanceBy k (now (y .entry)) t (now (means .entry))) (suc order * k) (now (distances .entry)) ⌝ }
 {
+    let at = t.0;
     let end = (order + 1) * k;
     for e in 0..end {
-        distances[e] = y[t - e / k] - means[e % k];
+        distances[e] = y[at - e / k] - means[e % k];
     }
 }
 
@@ -259,7 +262,14 @@ pub fn new_ar(q: MsarParams, y: &[f64], power: usize, n: usize, work: &[f64]) ->
     let mut tables = [0.0; 784];
     let mut sides = [0.0; 112];
     for i in 0..n {
-        distances_at(y, order + i, &q.means, k, order, &mut distances);
+        distances_at(
+            y,
+            window::time_of(Row(i), order),
+            &q.means,
+            k,
+            order,
+            &mut distances,
+        );
         add_row(
             work,
             2 * i * m + m,

@@ -17,6 +17,7 @@ use Rattle.number.specs.Number.{_⊕_, _⊖_, _⊗_, _⊘_, _<?_, _=?_, zero⁺
 use Rattle.number.specs.Sums.{sumUp}
 use Rattle.number.specs.Table.{_!_}
 use Rattle.number.proofs.Sums.{sum-ext}
+use Rattle.rounding.specs.NearOne.{NearOne}
 use Rattle.window.specs.Windows.{label, labels, predecessor}
 use Rattle.window.specs.Shape.{Shape}
 use Rattle.window.specs.Time.{timeOf}
@@ -37,7 +38,7 @@ use Rattle.density.specs.Density.{normal, density}
 use Rattle.prediction.specs.Prediction.{firstTo, firstPrediction, laterPrediction}
 use Rattle.filter.specs.Filter.{weight, total, updated, predictedRow, filteredRow, likelihood, likelihoodCheck}
 use Rattle.filter.proofs.Weights.{weight-at}
-use Rattle.promises.specs.Demand.{NotBelow, NearOne}
+use Rattle.promises.specs.Demand.{NotBelow}
 use Rattle.promises.proofs.Signs.{not-below, product-not-below, sums-not-below, exp-not-below}
 use Rattle.promises.proofs.Update.{NoneBelow, Rows, rows-near-one}
 

@@ -33,7 +33,6 @@ use Rattle.window.proofs.predecessor as window·predecessor
 use Rattle.window.proofs.successor as window·successor
 use Rattle.window.proofs.next_label as window·next_label
 use Rattle.window.proofs.time_of as window·time_of
-use Rattle.window.proofs.row_of as window·row_of
 use Rattle.refusal.proofs.first_of as refusal·first_of
 use Rattle.refusal.proofs.Refusal.number as refusal·number
 use Rattle.refusal.proofs.Refusal.place as refusal·place
@@ -102,7 +101,6 @@ module _ {M : Type 1} (𝓤 : URA M) (H : Heap 𝓤) (A : Atoms 𝓤) (mem : Mem
     pub successor : One window·successor.ended (window·successor.clauses 𝓤 H)
     pub next-label : OneOutcomeAsked 𝓤 window·next_label.ended (window·next_label.clauses 𝓤 H A mem run)
     pub time-of : One window·time_of.ended (window·time_of.clauses 𝓤 H)
-    pub row-of : One window·row_of.ended (window·row_of.clauses 𝓤 H)
     -- refusals, the spec, the parameters, the shares
     pub first-of : One refusal·first_of.ended (refusal·first_of.clauses 𝓤 H)
     pub number : One refusal·number.ended (refusal·number.clauses 𝓤 H)
@@ -188,7 +186,6 @@ module _ {M : Type 1} (𝓤 : URA M) (H : Heap 𝓤) (A : Atoms 𝓤) (mem : Mem
         successor = λ κs a g r r′ ws ws′. both (λ e e′. (one-outcome e e′, refl));
         next-label = λ κs a g r r′ ws ws′. asked (λ h e e′. let s = sym (mod-eq-of-lt (h .0)) in (one-outcome (e _ s) (e′ _ s), refl));
         time-of = λ κs a g r r′ ws ws′. both (λ e e′. (one-outcome e e′, refl));
-        row-of = λ κs a g r r′ ws ws′. both (λ e e′. (one-outcome e e′, refl));
         first-of = λ κs a g r r′ ws ws′. both (λ e e′. (one-outcome e e′, refl));
         number = λ κs a g r r′ ws ws′. both (λ e e′. (one-outcome e e′, refl));
         place = λ κs a g r r′ ws ws′. both (λ e e′. (one-outcome e e′, refl));

@@ -17,14 +17,14 @@ use Rattle.number.specs.Table.{_!_, tab}
 use Rattle.number.proofs.Sums.{sum-ext}
 use Rattle.number.proofs.Table.{length-tab}
 use Rattle.rounding.specs.Units.{inUnits}
-use Rattle.rounding.specs.Sums.{good, notBelow, total}
-use Rattle.rounding.specs.Shares.{part, sumTo}
-use Rattle.rounding.specs.Shares as shares
+use Rattle.rounding.specs.Sums.{good, notBelow, total, sumTo}
+use Rattle.rounding.specs.Shares.{part, labelShare}
+use Rattle.rounding.specs.NearOne.{unity, allowed, NearOne}
 use Rattle.rounding.proofs.Rows.{demand-3-of}
 use Rattle.rows.specs.Rows.{probability}
 use Rattle.rows.specs.Steps.{labelSum}
 use Rattle.rows.proofs.Rows.{label-sum-is}
-use Rattle.promises.specs.Demand.{NotBelow, exactTotal, unity, allowed, NearOne}
+use Rattle.promises.specs.Demand.{NotBelow}
 use Rattle.promises.proofs.Signs.{as-weight, product-not-below, quotient-not-below}
 use Rattle.promises.proofs.Lists.{total-tab, map-tab, every-tab, part-tab}
 
@@ -54,8 +54,8 @@ usable-parts x e =
 
 module _ (k p : ℕ) (pos : 0 < k) (few : k ^ suc p ≤ 256) (weight : ℕ → Float) (row : List Float)
     (divided : (a : ℕ) → a < k ^ suc p → row ! a ≡ weight a ⊘ sumUp weight (k ^ suc p)) where
-  -- the probability of label s, as the laws on rounding have it
-  as-share : (s : ℕ) → s < k → shares.probability binary64 k (tab weight (k ^ suc p)) s ≡ probability k p row s
+  -- the share of label s is its probability
+  as-share : (s : ℕ) → s < k → labelShare binary64 k (tab weight (k ^ suc p)) s ≡ probability k p row s
   unfolding labelSum
   as-share s h =
       let m = k ^ suc p in
@@ -80,12 +80,8 @@ module _ (k p : ℕ) (pos : 0 < k) (few : k ^ suc p ≤ 256) (weight : ℕ → F
         demand-3-of k (tab weight m) pos (subst (λ (n : ℕ). n ≤ 256) (sym long) few) (every-tab (notBelow binary64) weight m each)
         (subst (λ (x : Float). T (finite x)) (sym (total-tab weight m)) (u .0))
         (subst (λ (x : Float). T (lt zero⁺ x)) (sym (total-tab weight m)) (u .1)) in
-        near-same k m (shares.probability binary64 k (tab weight m)) (probability k p row) as-share
-        (record {
-          each = λ s _. d .each s;
-          not-above = subst (λ (n : ℕ). exactTotal k (shares.probability binary64 k (tab weight m)) ≤ unity + allowed n) long (d .near .0);
-          not-below = subst (λ (n : ℕ). unity ≤ exactTotal k (shares.probability binary64 k (tab weight m)) + allowed n) long (d .near .1);
-        })
+        near-same k m (labelShare binary64 k (tab weight m)) (probability k p row) as-share
+        (subst (λ (n : ℕ). NearOne k n (labelShare binary64 k (tab weight m))) long d)
 
     -- and the row has none below zero
     pub row-not-below : ((a : ℕ) → a < k ^ suc p → NotBelow (weight a)) → (a : ℕ) → a < k ^ suc p → NotBelow (row ! a)

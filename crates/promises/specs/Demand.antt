@@ -1,18 +1,15 @@
 -- Demand 3, of the tables that `filter` and `smooth` leave with their caller: "Where the filter answers and no stationary share is below zero,
 -- every filtered probability is at least zero, and each row's exact total differs from one by at most m / 2^52, m being the number of windows."
--- Exact totals are whole numbers in units of 2 ^ -1074: one is 2 ^ 1074, and m / 2 ^ 52 is m * 2 ^ 1022 (document 01, "How much a contract says").
+-- What this says of one row is `NearOne` (crates/rounding/specs/NearOne.antt).
 -- The rows are demand 2's, since the tables are those of the calls' own definitions.
 use mathlib.Core.Path.{_≡_}
 use mathlib.Core.Bool.{false}
 use mathlib.Core.List.{List}
-use Prim.Native.Nat.{ℕ, suc, _+_, _*_, _^_, _<_, _≤_}
-use lib.Dec.{T}
-use lib.Ieee.{Float, binary64, lt}
+use Prim.Native.Nat.{ℕ, suc, _^_, _<_}
+use lib.Ieee.{Float, lt}
 use Rattle.number.specs.Number.{zero⁺}
 use Rattle.number.specs.Table.{_!_, cell}
-use Rattle.rounding.specs.Units.{inUnits}
-use Rattle.rounding.specs.Sums.{good}
-use Rattle.rounding.specs.Shares.{sumTo}
+use Rattle.rounding.specs.NearOne.{NearOne}
 use Rattle.refusal.specs.declared.Check.the-variants.{Passed}
 use Rattle.spec.specs.declared.MsarSpec.{MsarSpec}
 use Rattle.params.specs.declared.MsarParams.{MsarParams}
@@ -24,24 +21,7 @@ use Rattle.model.specs.Calls.{Outcome, filterCall, smoothCall}
 abbrev pub NotBelow : Float → Type 0
 NotBelow x = lt x zero⁺ ≡ false
 
--- the exact total of k numbers not below zero, in units of 2 ^ -1074
-abbrev pub exactTotal : ℕ → (ℕ → Float) → ℕ
-exactTotal k x = sumTo (λ s. inUnits binary64 (x s)) k
-
--- one, and m / 2 ^ 52, in these units
-abbrev pub unity : ℕ
-unity = 2 ^ 1074
-
-abbrev pub allowed : ℕ → ℕ
-allowed m = m * 2 ^ 1022
-
--- k probabilities that come from m windows: each is finite and at least zero, and their exact total differs from one by at most m / 2 ^ 52
-pub record NearOne (k m : ℕ) (x : ℕ → Float) : Type 0 where
-  pub each : (s : ℕ) → s < k → T (good binary64 (x s))
-  pub not-above : exactTotal k x ≤ unity + allowed m
-  pub not-below : unity ≤ exactTotal k x + allowed m
-
--- so is every row of a table: n = T - p rows of k probabilities, one row after another, and m = k ^ (p + 1)
+-- every row of a table is near one: n = T - p rows of k probabilities, one row after another, and m = k ^ (p + 1)
 abbrev pub Demand3 : MsarParams → List Float → List Float → Type 0
 Demand3 q y table = (i : ℕ) → i < rowCount q y → NearOne (k q) (k q ^ suc (p q)) (cell (k q) table i)
 

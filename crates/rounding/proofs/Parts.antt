@@ -15,8 +15,8 @@ use lib.Ieee.Fits.{and-i, and-l, and-r}
 use lib.Ieee.Scale.{overflow}
 use Rattle.rounding.specs.Units.{inUnits}
 use Rattle.rounding.specs.Bounds.{Near}
-use Rattle.rounding.specs.Sums.{good, every, total, exactTotal}
-use Rattle.rounding.specs.Shares.{part, sumTo}
+use Rattle.rounding.specs.Sums.{good, every, total, exactSum, sumTo}
+use Rattle.rounding.specs.Shares.{part}
 use Rattle.rounding.proofs.Sums.{NearSum, sum-error, sum-finite}
 
 -- ---- one part
@@ -40,11 +40,11 @@ part-length k i j (x ∷ xs) = go (eqb (j % k) i) (part-length k i (suc j) xs)
     go false h = omega arith
 
 -- and sums to no more
-part-total : (f : Format) (k i j : ℕ) (xs : List Float) → exactTotal f (part k i j xs) ≤ exactTotal f xs
+part-total : (f : Format) (k i j : ℕ) (xs : List Float) → exactSum f (part k i j xs) ≤ exactSum f xs
 part-total f k i j [] = zero-le
 part-total f k i j (x ∷ xs) = go (eqb (j % k) i) (part-total f k i (suc j) xs)
   where
-    go : (b : Bool) → exactTotal f (part k i (suc j) xs) ≤ exactTotal f xs → exactTotal f (cond b (x ∷ part k i (suc j) xs) (part k i (suc j) xs)) ≤ inUnits f x + exactTotal f xs
+    go : (b : Bool) → exactSum f (part k i (suc j) xs) ≤ exactSum f xs → exactSum f (cond b (x ∷ part k i (suc j) xs) (part k i (suc j) xs)) ≤ inUnits f x + exactSum f xs
     go true h = omega arith
     go false h = omega arith
 
@@ -79,30 +79,30 @@ one-place v r (suc n) h = elim (eq-or-lt-of-le (le-of-suc-le-suc h)) [
 
 -- ---- all parts
 
-part-step : (f : Format) (k i j : ℕ) (x : Float) (xs : List Float) → exactTotal f (part k i j (x ∷ xs)) ≡ at-place (inUnits f x) (j % k) i + exactTotal f (part k i (suc j) xs)
+part-step : (f : Format) (k i j : ℕ) (x : Float) (xs : List Float) → exactSum f (part k i j (x ∷ xs)) ≡ at-place (inUnits f x) (j % k) i + exactSum f (part k i (suc j) xs)
 part-step f k i j x xs = go (eqb (j % k) i)
   where
-    go : (b : Bool) → exactTotal f (cond b (x ∷ part k i (suc j) xs) (part k i (suc j) xs)) ≡ cond b (inUnits f x) 0 + exactTotal f (part k i (suc j) xs)
+    go : (b : Bool) → exactSum f (cond b (x ∷ part k i (suc j) xs) (part k i (suc j) xs)) ≡ cond b (inUnits f x) 0 + exactSum f (part k i (suc j) xs)
     go true = refl
-    go false = sym (zero-add (exactTotal f (part k i (suc j) xs)))
+    go false = sym (zero-add (exactSum f (part k i (suc j) xs)))
 
 -- the exact sums of the k parts add up to that of the whole
-pub parts-sum-to-whole : (f : Format) (k j : ℕ) (xs : List Float) → 0 < k → sumTo (λ i. exactTotal f (part k i j xs)) k ≡ exactTotal f xs
+pub parts-sum-to-whole : (f : Format) (k j : ℕ) (xs : List Float) → 0 < k → sumTo (λ i. exactSum f (part k i j xs)) k ≡ exactSum f xs
 parts-sum-to-whole f k j [] K = sum-zero k
 parts-sum-to-whole f k j (x ∷ xs) K =
-    sum-same (λ i. exactTotal f (part k i j (x ∷ xs))) (λ i. at-place (inUnits f x) (j % k) i + exactTotal f (part k i (suc j) xs)) k (λ i. part-step f k i j x xs)
-    ∙ sum-add (at-place (inUnits f x) (j % k)) (λ i. exactTotal f (part k i (suc j) xs)) k
+    sum-same (λ i. exactSum f (part k i j (x ∷ xs))) (λ i. at-place (inUnits f x) (j % k) i + exactSum f (part k i (suc j) xs)) k (λ i. part-step f k i j x xs)
+    ∙ sum-add (at-place (inUnits f x) (j % k)) (λ i. exactSum f (part k i (suc j) xs)) k
     ∙ ap₂ (λ (a b : ℕ). a + b) (one-place (inUnits f x) (j % k) k (mod-lt j K)) (parts-sum-to-whole f k (suc j) xs K)
 
 -- ---- the float sums of the parts of m good numbers, where 4 m ≤ P and twice their exact sum is below the overflow
-module _ (f : Format) (k : ℕ) (xs : List Float) (g : T (every (good f) xs)) (few : 4 * length xs ≤ 2 ^ prec f) (small : 2 * exactTotal f xs < overflow f) where
+module _ (f : Format) (k : ℕ) (xs : List Float) (g : T (every (good f) xs)) (few : 4 * length xs ≤ 2 ^ prec f) (small : 2 * exactSum f xs < overflow f) where
   -- each is good, and P |F - Q| ≤ (m - 1) F for the exact sum Q of the part
-  pub part-error : (i : ℕ) → NearSum f (total f (part k i 0 xs)) (length xs - 1) (exactTotal f (part k i 0 xs))
+  pub part-error : (i : ℕ) → NearSum f (total f (part k i 0 xs)) (length xs - 1) (exactSum f (part k i 0 xs))
   part-error i =
       let ys = part k i 0 xs in
       let gy = part-good f k i 0 xs g in
-      let sum = sum-error f ys gy (sum-finite f ys gy (fewer (length ys) (length xs) (2 ^ prec f) (part-length k i 0 xs) few) (smaller (exactTotal f ys) (exactTotal f xs) (overflow f) (part-total f k i 0 xs) small)) in
-      record { isGood = sum .isGood; near = weaken (2 ^ prec f) (inUnits f (total f ys)) (exactTotal f ys) (length ys) (length xs) (part-length k i 0 xs) (sum .near) }
+      let sum = sum-error f ys gy (sum-finite f ys gy (fewer (length ys) (length xs) (2 ^ prec f) (part-length k i 0 xs) few) (smaller (exactSum f ys) (exactSum f xs) (overflow f) (part-total f k i 0 xs) small)) in
+      record { isGood = sum .isGood; near = weaken (2 ^ prec f) (inUnits f (total f ys)) (exactSum f ys) (length ys) (length xs) (part-length k i 0 xs) (sum .near) }
     where
       fewer : (c m P : ℕ) → c ≤ m → 4 * m ≤ P → 4 * c ≤ P
       fewer c m P h k = omega arith
@@ -119,10 +119,10 @@ module _ (f : Format) (k : ℕ) (xs : List Float) (g : T (every (good f) xs)) (f
           (omega (arith, d .0, x), omega (arith, d .1, x))
 
   -- and P |F - S| ≤ (m - 1) F for the exact total F of all k and the exact sum S of the whole
-  pub parts-error : 0 < k → Near ((length xs - 1) * sumTo (λ i. inUnits f (total f (part k i 0 xs))) k) (2 ^ prec f * sumTo (λ i. inUnits f (total f (part k i 0 xs))) k) (2 ^ prec f * exactTotal f xs)
+  pub parts-error : 0 < k → Near ((length xs - 1) * sumTo (λ i. inUnits f (total f (part k i 0 xs))) k) (2 ^ prec f * sumTo (λ i. inUnits f (total f (part k i 0 xs))) k) (2 ^ prec f * exactSum f xs)
   parts-error K =
       rw (parts-sum-to-whole f k 0 xs K) at
-      (all-near (2 ^ prec f) (length xs - 1) (λ i. inUnits f (total f (part k i 0 xs))) (λ i. exactTotal f (part k i 0 xs)) k (λ i. part-error i .near))
+      (all-near (2 ^ prec f) (length xs - 1) (λ i. inUnits f (total f (part k i 0 xs))) (λ i. exactSum f (part k i 0 xs)) k (λ i. part-error i .near))
     where
       all-near : (P n : ℕ) (F Q : ℕ → ℕ) (k : ℕ) → ((i : ℕ) → Near (n * F i) (P * F i) (P * Q i)) → Near (n * sumTo F k) (P * sumTo F k) (P * sumTo Q k)
       all-near P n F Q zero h = omega arith

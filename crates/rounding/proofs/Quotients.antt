@@ -17,7 +17,7 @@ use lib.Ieee.Scale.{grid, overflow, finite, round-same, round-val}
 use Rattle.number.specs.Number.{zero⁺}
 use Rattle.rounding.specs.Units.{inUnits, IsUnits}
 use Rattle.rounding.specs.Bounds.{Near}
-use Rattle.rounding.specs.Sums.{good, every, total, exactTotal}
+use Rattle.rounding.specs.Sums.{good, every, total, exactSum}
 use Rattle.rounding.specs.Shares.{divided, shares}
 use Rattle.rounding.proofs.Round.{round-zero}
 use Rattle.rounding.proofs.Operations.{div-finite, unlike-clear}
@@ -112,23 +112,23 @@ quotient-error f w d g k p h =
 -- the quotients qs are good, and for their exact sum Q and m of them Q ≤ 4 m, 2 P |Q c - s U| ≤ 2 Q c + m P c in units
 pub record NearQuotients (f : Format) (qs : List Float) (m s c : ℕ) : Type 0 where
   pub areGood : T (every (good f) qs)
-  pub bound : exactTotal f qs ≤ m * (4 * 2 ^ low f)
-  pub near : Near (exactTotal f qs * c * 2 + m * (2 ^ prec f * c)) (2 ^ prec f * (exactTotal f qs * c) * 2) (2 ^ prec f * (s * 2 ^ low f) * 2)
+  pub bound : exactSum f qs ≤ m * (4 * 2 ^ low f)
+  pub near : Near (exactSum f qs * c * 2 + m * (2 ^ prec f * c)) (2 ^ prec f * (exactSum f qs * c) * 2) (2 ^ prec f * (s * 2 ^ low f) * 2)
 
 -- so are ws each divided by d, for ws and d good, 0 < d and an exact sum of ws of at most 2 d
-pub quotients-error : (f : Format) (ws : List Float) (d : Float) → T (every (good f) ws) → T (good f d) → T (lt zero⁺ d) → exactTotal f ws ≤ 2 * inUnits f d → NearQuotients f (divided f ws d) (length ws) (exactTotal f ws) (inUnits f d)
+pub quotients-error : (f : Format) (ws : List Float) (d : Float) → T (every (good f) ws) → T (good f d) → T (lt zero⁺ d) → exactSum f ws ≤ 2 * inUnits f d → NearQuotients f (divided f ws d) (length ws) (exactSum f ws) (inUnits f d)
 quotients-error f [] d g k p h = record { areGood = tt; bound = zero-le; near = none (2 ^ prec f) (2 ^ low f) (inUnits f d) }
   where
     none : (P U c : ℕ) → Near (0 * c * 2 + 0 * (P * c)) (P * (0 * c) * 2) (P * (0 * U) * 2)
     none P U c = omega arith
 quotients-error f (w ∷ ws) d g k p h =
     let a = inUnits f w in
-    let S = exactTotal f ws in
+    let S = exactSum f ws in
     let c = inUnits f d in
     let one = quotient-error f w d (and-l (good f w) (every (good f) ws) g) k p (le-trans (le-add-right a S) h) in
     let all = quotients-error f ws d (and-r (good f w) (every (good f) ws) g) k p (tail a S (2 * c) h) in
     let q = inUnits f (div f w d) in
-    let Q = exactTotal f (divided f ws d) in
+    let Q = exactSum f (divided f ws d) in
     record {
       areGood = and-i (good f (div f w d)) (every (good f) (divided f ws d)) (one .isGood) (all .areGood);
       bound = more q Q (length ws) (4 * 2 ^ low f) (one .bound) (all .bound);
@@ -146,10 +146,10 @@ quotients-error f (w ∷ ws) d g k p h =
     both P U c q Q m a S h k = omega (arith, h, k)
 
 -- so are m ≤ P good weights divided by their float sum, where that is finite and above zero
-pub shares-error : (f : Format) (ws : List Float) → length ws ≤ 2 ^ prec f → T (every (good f) ws) → T (finite (total f ws)) → T (lt zero⁺ (total f ws)) → NearQuotients f (shares f ws) (length ws) (exactTotal f ws) (inUnits f (total f ws))
+pub shares-error : (f : Format) (ws : List Float) → length ws ≤ 2 ^ prec f → T (every (good f) ws) → T (finite (total f ws)) → T (lt zero⁺ (total f ws)) → NearQuotients f (shares f ws) (length ws) (exactSum f ws) (inUnits f (total f ws))
 shares-error f ws few g t p =
     let sum = sum-error f ws g t in
-    quotients-error f ws (total f ws) g (sum .isGood) p (twice (2 ^ prec f) (inUnits f (total f ws)) (exactTotal f ws) (length ws - 1) (pow-pos (prec f)) (less (length ws) (2 ^ prec f) few) (sum .near))
+    quotients-error f ws (total f ws) g (sum .isGood) p (twice (2 ^ prec f) (inUnits f (total f ws)) (exactSum f ws) (length ws - 1) (pow-pos (prec f)) (less (length ws) (2 ^ prec f) few) (sum .near))
   where
     less : (m P : ℕ) → m ≤ P → m - 1 ≤ P
     less m P h = omega arith

@@ -15,8 +15,9 @@ use lib.Ieee.Scale.{overflow, finite}
 use Rattle.number.specs.Number.{zero⁺}
 use Rattle.rounding.specs.Units.{inUnits}
 use Rattle.rounding.specs.Bounds.{Near}
-use Rattle.rounding.specs.Sums.{good, notBelow, every, total, exactTotal}
-use Rattle.rounding.specs.Shares.{shares, probability, sumTo, Demand3}
+use Rattle.rounding.specs.Sums.{good, notBelow, every, total, exactSum, sumTo}
+use Rattle.rounding.specs.Shares.{shares, labelShare}
+use Rattle.rounding.specs.NearOne.{exactTotal, unity, NearOne}
 use Rattle.rounding.proofs.Units.{positive-units}
 use Rattle.rounding.proofs.Sums.{sum-error, all-good}
 use Rattle.rounding.proofs.Quotients.{room, shares-error}
@@ -80,10 +81,10 @@ many-units f = le-trans (le-of-eq (sym (pow-add 2 (prec f) 10))) (pow-mono (go f
 
 -- ---- a row
 
--- every probability is good, and P |F - U| ≤ 2 m U for their exact total F, with P = 2 ^ prec f and one U = 2 ^ low f
+-- every label's share is good, and P |F - U| ≤ 2 m U for their exact total F, with P = 2 ^ prec f and one U = 2 ^ low f
 pub record NearRow (f : Format) (k : ℕ) (ws : List Float) : Type 0 where
-  pub each : (i : ℕ) → T (good f (probability f k ws i))
-  pub near : Near (length ws * 2 ^ low f * 2) (2 ^ prec f * sumTo (λ i. inUnits f (probability f k ws i)) k) (2 ^ prec f * 2 ^ low f)
+  pub each : (i : ℕ) → T (good f (labelShare f k ws i))
+  pub near : Near (length ws * 2 ^ low f * 2) (2 ^ prec f * sumTo (λ i. inUnits f (labelShare f k ws i)) k) (2 ^ prec f * 2 ^ low f)
 
 -- so it is for m ≤ 256 good weights whose float sum is finite and above zero, and for any number k of labels
 pub row-error : (f : Format) (k : ℕ) (ws : List Float) → 0 < k → length ws ≤ 256 → T (every (good f) ws) → T (finite (total f ws)) → T (lt zero⁺ (total f ws)) → NearRow f k ws
@@ -100,14 +101,14 @@ row-error f k (w ∷ ws) K few g t p =
     let share = shares-error f all (once m1 P few1 (many-digits f)) g t p in
     let same : length qs ≡ suc m1 = length-map all (λ x. div f x (total f all)) in
     let four : 4 * length qs ≤ P = four-times (length qs) m1 P same few1 (many-digits f) in
-    let small : 2 * exactTotal f qs < overflow f = twice (exactTotal f qs) m1 U (overflow f) (share .bound) few1 (pow-pos (low f)) (room f) in
-    let F : ℕ = sumTo (λ i. inUnits f (probability f k all i)) k in
+    let small : 2 * exactSum f qs < overflow f = twice (exactSum f qs) m1 U (overflow f) (share .bound) few1 (pow-pos (low f)) (room f) in
+    let F : ℕ = sumTo (λ i. inUnits f (labelShare f k all i)) k in
     record {
       each = λ i. part-error f k qs (share .areGood) four small i .isGood;
       near =
-          whole-near P U L (exactTotal f all) (exactTotal f qs) F m1 (positive-units f (total f all) (sum .isGood) p .1) (many-digits f) (many-units f) few1
-          (subst (λ (n : ℕ). Near (n * L) (P * L) (P * exactTotal f all)) (less-one (length all) m1 refl) (sum .near)) (share .near)
-          (subst (λ (n : ℕ). Near (n * F) (P * F) (P * exactTotal f qs)) (less-one (length qs) m1 same) (parts-error f k qs (share .areGood) four small K));
+          whole-near P U L (exactSum f all) (exactSum f qs) F m1 (positive-units f (total f all) (sum .isGood) p .1) (many-digits f) (many-units f) few1
+          (subst (λ (n : ℕ). Near (n * L) (P * L) (P * exactSum f all)) (less-one (length all) m1 refl) (sum .near)) (share .near)
+          (subst (λ (n : ℕ). Near (n * F) (P * F) (P * exactSum f qs)) (less-one (length qs) m1 same) (parts-error f k qs (share .areGood) four small K));
     }
   where
     less-one : (m m1 : ℕ) → m ≡ suc m1 → m - 1 ≡ m1
@@ -131,18 +132,19 @@ scale-down P F U W m p e h =
     (le-of-mul-le-mul-left {k = P} (omega (arith, x, h .0)) p, le-of-mul-le-mul-left {k = P} (omega (arith, x, h .1)) p)
 
 -- demand 3, for m ≤ 256 good weights whose float sum is finite and above zero
-pub demand-3 : (k : ℕ) (ws : List Float) → 0 < k → length ws ≤ 256 → T (every (good binary64) ws) → T (finite (total binary64 ws)) → T (lt zero⁺ (total binary64 ws)) → Demand3 k ws
+pub demand-3 : (k : ℕ) (ws : List Float) → 0 < k → length ws ≤ 256 → T (every (good binary64) ws) → T (finite (total binary64 ws)) → T (lt zero⁺ (total binary64 ws)) → NearOne k (length ws) (labelShare binary64 k ws)
 demand-3 k ws K few g t p =
     let r = row-error binary64 k ws K few g t p in
-    record { each = r .each; near = scale-down (2 ^ 53) (sumTo (λ i. inUnits binary64 (probability binary64 k ws i)) k) (2 ^ 1074) (2 ^ 1022) (length ws) (pow-pos 53) refl (r .near) }
+    let n = scale-down (2 ^ 53) (exactTotal k (labelShare binary64 k ws)) unity (2 ^ 1022) (length ws) (pow-pos 53) refl (r .near) in
+    record { each = λ i _. r .each i; not-above = n .0; not-below = n .1 }
 
 -- the same where each weight is known only to be of the format and not below zero, or a NaN: since their sum is finite, each is good
-pub demand-3-of : (k : ℕ) (ws : List Float) → 0 < k → length ws ≤ 256 → T (every (notBelow binary64) ws) → T (finite (total binary64 ws)) → T (lt zero⁺ (total binary64 ws)) → Demand3 k ws
+pub demand-3-of : (k : ℕ) (ws : List Float) → 0 < k → length ws ≤ 256 → T (every (notBelow binary64) ws) → T (finite (total binary64 ws)) → T (lt zero⁺ (total binary64 ws)) → NearOne k (length ws) (labelShare binary64 k ws)
 demand-3-of k ws K few g t p = demand-3 k ws K few (all-good binary64 ws g t) t p
 
 -- document 01's P8: the weights 1, 1, 1 of three labels have the exact total 1 - 2 ^ -54
 pub record P8 : Type 0 where
-  pub exact-total : sumTo (λ i. inUnits binary64 (probability binary64 3 (fin false 1 (pos 0) ∷ fin false 1 (pos 0) ∷ fin false 1 (pos 0) ∷ []) i)) 3 ≡ 2 ^ 1074 - 2 ^ 1020
+  pub exact-total : sumTo (λ i. inUnits binary64 (labelShare binary64 3 (fin false 1 (pos 0) ∷ fin false 1 (pos 0) ∷ fin false 1 (pos 0) ∷ []) i)) 3 ≡ 2 ^ 1074 - 2 ^ 1020
 
 pub p8 : P8
 unfolding inUnits add div ofBits

@@ -18,7 +18,7 @@ use lib.Ieee.Scale.{grid, overflow, finite, round-same, round-val, round-under}
 use Rattle.number.specs.Number.{zero⁺}
 use Rattle.rounding.specs.Units.{inUnits, IsUnits}
 use Rattle.rounding.specs.Bounds.{Near}
-use Rattle.rounding.specs.Sums.{good, notBelow, every, sumFrom, total, exactTotal}
+use Rattle.rounding.specs.Sums.{good, notBelow, every, sumFrom, total, exactSum}
 use Rattle.rounding.proofs.Signed.{le→units, zero-times}
 use Rattle.rounding.proofs.Operations.{add-finite}
 use Rattle.rounding.proofs.Error.{rounding-error-whole, four-le}
@@ -116,11 +116,11 @@ finite-start f x (y ∷ ys) t = finite-parts f x y (finite-start f (add f x y) y
 
 -- ---- from a partial sum on
 
-sum-near : (f : Format) (x : Float) (ys : List Float) (n s : ℕ) → Partial f x n s → T (every (good f) ys) → T (finite (sumFrom f x ys)) → Partial f (sumFrom f x ys) (n + length ys) (s + exactTotal f ys)
+sum-near : (f : Format) (x : Float) (ys : List Float) (n s : ℕ) → Partial f x n s → T (every (good f) ys) → T (finite (sumFrom f x ys)) → Partial f (sumFrom f x ys) (n + length ys) (s + exactSum f ys)
 sum-near f x [] n s p g t = rw (add-zero n, add-zero s) p
 sum-near f x (y ∷ ys) n s p g t =
     let gy = and-l (good f y) (every (good f) ys) g in
-    rw (← move n (length ys), ← add-assoc s (inUnits f y) (exactTotal f ys))
+    rw (← move n (length ys), ← add-assoc s (inUnits f y) (exactSum f ys))
     (sum-near f (add f x y) ys (suc n) (s + inUnits f y)
     (next f x y n s p gy (add-under f x y (p .size) (inUnits f y) (p .value) (good-units f y gy) (finite-start f (add f x y) ys t)))
     (and-r (good f y) (every (good f) ys) g) t)
@@ -135,16 +135,16 @@ no-overflow P n r s b q W h k near next less =
     let c : 3 * q ≤ 4 * (r + b) = le-of-mul-le-mul-left {k = P} (omega (arith, next .0, o)) pos in
     omega (arith, a, c, less)
 
-sum-under : (f : Format) (x : Float) (ys : List Float) (n s : ℕ) → Partial f x n s → T (every (good f) ys) → 4 * (n + length ys) ≤ 2 ^ prec f → 2 * (s + exactTotal f ys) < overflow f → T (finite (sumFrom f x ys))
+sum-under : (f : Format) (x : Float) (ys : List Float) (n s : ℕ) → Partial f x n s → T (every (good f) ys) → 4 * (n + length ys) ≤ 2 ^ prec f → 2 * (s + exactSum f ys) < overflow f → T (finite (sumFrom f x ys))
 sum-under f x [] n s p g h o = units-finite f x (p .size) (value→units f x (p .size) (p .value))
 sum-under f x (y ∷ ys) n s p g h o =
     let gy = and-l (good f y) (every (good f) ys) g in
     let b = inUnits f y in
     sum-under f (add f x y) ys (suc n) (s + b)
-    (next f x y n s p gy (no-overflow (2 ^ prec f) n (p .size) s b (plus f (p .size) b) (overflow f) (four-le f) (fewer (length ys) (2 ^ prec f) h) (p .near) (rounding-error-whole f (p .size + b)) (less b (exactTotal f ys) (overflow f) o)))
+    (next f x y n s p gy (no-overflow (2 ^ prec f) n (p .size) s b (plus f (p .size) b) (overflow f) (four-le f) (fewer (length ys) (2 ^ prec f) h) (p .near) (rounding-error-whole f (p .size + b)) (less b (exactSum f ys) (overflow f) o)))
     (and-r (good f y) (every (good f) ys) g)
     (rw (move n (length ys)) h)
-    (rw (add-assoc s b (exactTotal f ys)) o)
+    (rw (add-assoc s b (exactSum f ys)) o)
   where
     fewer : (k P : ℕ) → 4 * (n + suc k) ≤ P → 4 * n ≤ P
     fewer k P h = omega arith
@@ -178,17 +178,17 @@ near-sum f x n s p =
     record { isGood = units-good f x (p .size) (p .holds) u; near = rw (in-units f x (p .size) u) (p .near) }
 
 -- the float sum L of m good numbers, where finite, is good, and P |L - S| ≤ (m - 1) L for the exact sum S: the first addition is exact
-pub sum-error : (f : Format) (xs : List Float) → T (every (good f) xs) → T (finite (total f xs)) → NearSum f (total f xs) (length xs - 1) (exactTotal f xs)
+pub sum-error : (f : Format) (xs : List Float) → T (every (good f) xs) → T (finite (total f xs)) → NearSum f (total f xs) (length xs - 1) (exactSum f xs)
 sum-error f [] g t = near-sum f zero⁺ 0 0 (none f)
 sum-error f (x ∷ xs) g t =
     rw (less-one (length xs))
-    (near-sum f (total f (x ∷ xs)) (0 + length xs) (exactTotal f (x ∷ xs)) (sum-near f (add f zero⁺ x) xs 0 (inUnits f x) (first f x (and-l (good f x) (every (good f) xs) g)) (and-r (good f x) (every (good f) xs) g) t))
+    (near-sum f (total f (x ∷ xs)) (0 + length xs) (exactSum f (x ∷ xs)) (sum-near f (add f zero⁺ x) xs 0 (inUnits f x) (first f x (and-l (good f x) (every (good f) xs) g)) (and-r (good f x) (every (good f) xs) g) t))
   where
     less-one : (k : ℕ) → suc k - 1 ≡ 0 + k
     less-one k = omega arith
 
 -- it is finite where 4 m ≤ P and 2 S is below the overflow
-pub sum-finite : (f : Format) (xs : List Float) → T (every (good f) xs) → 4 * length xs ≤ 2 ^ prec f → 2 * exactTotal f xs < overflow f → T (finite (total f xs))
+pub sum-finite : (f : Format) (xs : List Float) → T (every (good f) xs) → 4 * length xs ≤ 2 ^ prec f → 2 * exactSum f xs < overflow f → T (finite (total f xs))
 unfolding ofBits
 sum-finite f [] g h o = tt
 sum-finite f (x ∷ xs) g h o =

@@ -5,7 +5,9 @@ pub mod Units
 pub mod Bounds
 -- signs, and the order of ±a and ±b
 pub mod Signed
--- good weights, their float sum and their exact sum
+-- good weights, their float sum and their exact sum; sums of whole numbers
 pub mod Sums
--- weights divided by their sum, the probabilities of labels, demand 3
+-- weights divided by their sum, and the shares of labels
 pub mod Shares
+-- k probabilities whose exact total is near one: what demand 3 says of a row
+pub mod NearOne

@@ -1,8 +1,8 @@
--- Weights, their float sum upward from positive zero, and their exact sum in units.
+-- Weights, their float sum upward from positive zero, and their exact sum in units; sums of whole numbers.
 -- After document 01, "The steps": "Sums start at positive zero and run upward".
 use mathlib.Core.Bool.{Bool, true, _&&_, _||_}
 use mathlib.Core.List.{List, [], _∷_}
-use Prim.Native.Nat.{ℕ, _+_}
+use Prim.Native.Nat.{ℕ, zero, suc, _+_}
 use lib.Ieee.{Float, Format, add, le, fits, isNan}
 use lib.Ieee.Scale.{finite}
 use Rattle.number.specs.Number.{zero⁺}
@@ -31,6 +31,11 @@ abbrev pub total : Format → List Float → Float
 total f xs = sumFrom f zero⁺ xs
 
 -- the exact sum, in units
-abbrev pub exactTotal : Format → List Float → ℕ
-exactTotal f [] = 0
-exactTotal f (x ∷ xs) = inUnits f x + exactTotal f xs
+abbrev pub exactSum : Format → List Float → ℕ
+exactSum f [] = 0
+exactSum f (x ∷ xs) = inUnits f x + exactSum f xs
+
+-- g 0 + g 1 + .. + g (n - 1)
+abbrev pub sumTo : (ℕ → ℕ) → ℕ → ℕ
+sumTo g zero = 0
+sumTo g (suc n) = sumTo g n + g n

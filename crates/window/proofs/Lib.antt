@@ -6,8 +6,6 @@ pub mod Neighbours
 pub mod Table
 -- the code's arithmetic
 pub mod Given
--- rows and times
-pub mod Times
 -- P1 and P2
 pub mod Examples
 -- labels now run round

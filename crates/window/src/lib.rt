@@ -3,7 +3,7 @@ ghost use mathlib.Core.Path.{_≡_};
 ghost use Prim.Native.Nat.{ℕ, suc, _+_, _%_, _<_, _≤_};
 ghost use Rattle.window.specs.Windows.{label, labels, number, predecessor, successor};
 ghost use Rattle.window.specs.Shape.{Given, powersOf};
-ghost use Rattle.window.specs.Time.{timeOf, rowOf};
+ghost use Rattle.window.specs.Time.{timeOf};
 
 // The number of a row of results.
 pub struct Row(pub usize);
@@ -16,13 +16,6 @@ pub fn time_of(row: Row, order: usize) -> Time
     ensures { λ t. ⌜ t ≡ timeOf order row ⌝ }
 {
     Time(order + row.0)
-}
-
-pub fn row_of(time: Time, order: usize) -> Row
-    requires { ⌜ order ≤ time .0 ⌝ }
-    ensures { λ r. ⌜ r ≡ rowOf order time ⌝ }
-{
-    Row(time.0 - order)
 }
 
 // The powers of k up to the count of windows, k^(order+1). More than 256 windows have no table: its places are zero.

@@ -14,10 +14,10 @@ use Rattle.coefficients.proofs.distances_at.Reads as reads
 use Rattle.coefficients.proofs.distances_at.Lts as lts
 
 abbrev Inv-loop : tie.InvT-loop
-Inv-loop y t means k order distances₀ end e₀ distances e = (e ≤ (order + 1) * k) × (distances ≡ fillAt 0 (distanceBy k y t means) e distances₀)
+Inv-loop y means k order distances₀ at end e₀ distances e = (e ≤ (order + 1) * k) × (distances ≡ fillAt 0 (distanceBy k y (record { 0 = at }) means) e distances₀)
 
 abbrev μ-loop : tie.MeasureT-loop
-μ-loop y t means k order distances₀ end e₀ distances e = (order + 1) * k - e
+μ-loop y means k order distances₀ at end e₀ distances e = (order + 1) * k - e
 
 few : (c : tie.Start Inv-loop μ-loop) → (c .args .order + 1) * c .args .k ≤ 128
 few c = distances-fit (c .pre .1) (c .pre .2)

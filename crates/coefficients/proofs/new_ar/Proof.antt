@@ -5,13 +5,15 @@ use Rattle.coefficients.specs.Steps.{distanceBy}
 use Rattle.smoothed.specs.Smoothed.{windowsOf}
 use Rattle.rows.proofs.Places.{rows-within}
 use Rattle.window.proofs.Table.{order-at-most-7}
+use Rattle.window.specs.Time.{timeOf}
+use Rattle.window.specs.declared.Time.{Time}
 use Rattle.number.proofs.Table.{fill-long}
 use Rattle.number.specs.Table.{fillAt}
 use Rattle.number.specs.Number.{zero⁺}
 use native.Mathlib.Numerals.{add-one}
 use native.Mathlib.Nat.{pow-suc}
 use Prim.Native.Nat.{suc, _+_, _*_, _-_, _<_, _≤_}
-use mathlib.Core.Path.{_≡_, _∙_}
+use mathlib.Core.Path.{_≡_, ap, _∙_}
 use native.Mathlib.Omega.{arith}
 use borrow.Author.Needs.{needs}
 use lib.ListN.{length, replicate, length-replicate}
@@ -22,6 +24,7 @@ use Rattle.coefficients.proofs.new_ar.Lts as lts
 use Rattle.coefficients.proofs.add_row.Reads as add-row-reads
 use Rattle.coefficients.proofs.distances_at.Reads as distances-at-reads
 use Rattle.coefficients.proofs.solve_blocks.Reads as solve-blocks-reads
+use Rattle.window.proofs.time_of.Reads as time-of-reads
 
 abbrev Inv-loop : tie.InvT-loop
 Inv-loop y power n work q k order m distances₀ tables₀ sides₀ i₀ distances tables sides i =
@@ -59,45 +62,48 @@ mul-m c = omega (arith, few (c .before .before))
 loop-holds : tie.Need-loop-holds Inv-loop μ-loop
 loop-holds c = (omega arith, length-replicate 128 zero⁺, zeros-summed _ _ 784 _, zeros-summed _ _ 112 _)
 
-add-distances-at : tie.Need-add-distances-at Inv-loop μ-loop
-add-distances-at c = omega (arith, in-series c, c .before .before .before .before .pre .1 .3)
+time-of-requires : tie.Need-time-of-requires Inv-loop μ-loop
+time-of-requires c κs =
+    let start = c .before .before .before .before in
+    (omega (arith, in-series c, start .pre .1 .3), order-small start)
 
 distances-at-requires : tie.Need-distances-at-requires Inv-loop μ-loop
 distances-at-requires c κs =
-    let start = c .before .before .before .before .before .before .before in
-    (labels-positive start, start .pre .0 .high, order-small start, omega arith, in-series (c .before .before .before), c .before .before .before .before .loop .inv .1)
+    let start = c .before .before .before .before .before .before .before .before in
+    let e = ap (λ (t : Time). t .0) (c .before .before .before .time-of .ensures) in
+    (labels-positive start, start .pre .0 .high, order-small start, rw e (omega arith), rw e (in-series (c .before .before .before .before)), c .before .before .before .before .before .loop .inv .1)
 
 mul-add-row : tie.Need-mul-add-row Inv-loop μ-loop
-mul-add-row c = omega (arith, in-series (c .before .before .before .before), c .before .before .before .before .before .before .before .before .pre .1 .3)
+mul-add-row c = omega (arith, in-series (c .before .before .before .before .before), c .before .before .before .before .before .before .before .before .before .pre .1 .3)
 
 mul-add-row-2 : tie.Need-mul-add-row-2 Inv-loop μ-loop
-mul-add-row-2 c = omega (arith, in-work (c .before .before .before .before))
+mul-add-row-2 c = omega (arith, in-work (c .before .before .before .before .before))
 
 add-add-row : tie.Need-add-add-row Inv-loop μ-loop
-add-add-row c = omega (arith, in-work (c .before .before .before .before))
+add-add-row c = omega (arith, in-work (c .before .before .before .before .before))
 
 add-row-requires : tie.Need-add-row-requires Inv-loop μ-loop
 add-row-requires c κs =
-    let start = c .before .before .before .before .before .before .before .before .before .before .before .before .before in
-    let inv = c .before .before .before .before .before .before .before .before .before .before .loop .inv in (
-      (labels-positive start, start .pre .0 .high, omega (arith, in-work (c .before .before .before .before .before .before .before .before .before))),
+    let start = c .before .before .before .before .before .before .before .before .before .before .before .before .before .before in
+    let inv = c .before .before .before .before .before .before .before .before .before .before .before .loop .inv in (
+      (labels-positive start, start .pre .0 .high, omega (arith, in-work (c .before .before .before .before .before .before .before .before .before .before))),
       (start .pre .1 .1, order-small start, fill-long _ 784 _ (inv .2) (omega arith), fill-long _ 112 _ (inv .3) (omega arith)),
     )
 
 add-i : tie.Need-add-i Inv-loop μ-loop
-add-i c = omega (arith, in-series (c .before .before .before .before .before .before .before .before .before .before), c .before .before .before .before .before .before .before .before .before .before .before .before .before .before .pre .1 .3)
+add-i c = omega (arith, in-series (c .before .before .before .before .before .before .before .before .before .before .before), c .before .before .before .before .before .before .before .before .before .before .before .before .before .before .before .pre .1 .3)
 
 loop-less : tie.Need-loop-less Inv-loop μ-loop
 loop-less c = search needs
 
 loop-again : tie.Need-loop-again Inv-loop μ-loop
 loop-again c =
-    let start = c .before .before .before .before .before .before .before .before .before .before .before .before .before .before in
-    let inv = c .before .before .before .before .before .before .before .before .before .before .before .loop .inv in
-    let made = c .before .before .before .before .before .before .distances-at .ensures in
+    let start = c .before .before .before .before .before .before .before .before .before .before .before .before .before .before .before in
+    let inv = c .before .before .before .before .before .before .before .before .before .before .before .before .loop .inv in
+    let made = rw (c .before .before .before .before .before .before .before .before .before .before .time-of .ensures) at (c .before .before .before .before .before .before .distances-at .ensures) in
     let fit : suc (start .args .t1 .order) * start .args .t1 .«means_count» ≤ 128 = rw add-one at (distances-fit (start .pre .0 .high) (order-small start)) in (
-      omega (arith, c .before .before .before .before .before .before .before .before .before .before .loop-test .taken),
-      fill-long (distanceBy (start .args .t1 .«means_count») (start .args .y .now) (start .args .t1 .order + c .before .before .before .before .before .before .before .before .before .before .before .loop .i) (start .args .t1 .means)) _ _ made (rw (inv .1) fit) ∙ inv .1,
+      omega (arith, c .before .before .before .before .before .before .before .before .before .before .before .loop-test .taken),
+      fill-long (distanceBy (start .args .t1 .«means_count») (start .args .y .now) (timeOf (start .args .t1 .order) (record { 0 = c .before .before .before .before .before .before .before .before .before .before .before .before .loop .i })) (start .args .t1 .means)) _ _ made (rw (inv .1) fit) ∙ inv .1,
       tables-more (start .args .t1) (start .args .y .now) (start .args .work .now) _ _ (windows start) (labels-positive start) (start .pre .1 .1) _ _ made (inv .2) (c .add-row .ensures .0),
       sides-more (start .args .t1) (start .args .y .now) (start .args .work .now) _ _ (windows start) (labels-positive start) (start .pre .1 .1) _ _ made (inv .3) (c .add-row .ensures .1),
     )
@@ -120,7 +126,7 @@ new-ar-spec =
     μ-loop
     mul-m
     loop-holds
-    add-distances-at
+    time-of-requires
     distances-at-requires
     mul-add-row
     mul-add-row-2
