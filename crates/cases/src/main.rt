@@ -1,5 +1,6 @@
 // Document 01's twelve examples, each run through the library's own functions: a line for each, its name and `ok`, or
-// `differs` where an answer is not the example's. The same twelve are proved of the definitions (crates/promises).
+// `differs` where an answer is not the example's. The same twelve are proved of the definitions
+// (crates/promises/specs/Twelve.antt).
 ghost use mathlib.Core.Path.{_≡_};
 ghost use mathlib.Core.Bool.{true};
 ghost use Prim.Native.Nat.{_<_, _^_};

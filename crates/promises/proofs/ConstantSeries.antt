@@ -17,14 +17,14 @@ use Rattle.binding.specs.Binding.{readingCheck, seriesCheck, boundCheck, params
 use Rattle.binding.specs.declared.Tables.the-variants.{One}
 use Rattle.series.proofs.Examples as variances
 use Rattle.fit.specs.Calls.{fitCheck, fitCall}
-use Rattle.promises.specs.Twelve.{even, orderOne, constantFit, fitRefused}
+use Rattle.promises.specs.Twelve.{alike, orderOne, constantFit, fitRefused}
 
-admitted : admittedCheck orderOne (two ∷ two ∷ []) even 12 (One 2) ≡ Passed
+admitted : admittedCheck orderOne (two ∷ two ∷ []) (alike 1) 12 (One 2) ≡ Passed
 unfolding admittedCheck boundCheck specCheck seriesCheck readingCheck paramsCheck matchesSpec parameterCheck meanCheck entryCheck columnCheck arCheck varianceCheck columnSum sumUp isProbability usable each magnitudeOf lt le eq ofBits mul div add sub neg sum round size units odd span climb ofFields trailingZeros
 admitted = refl
 
 -- +0 is not above zero
-checked : fitCheck even (two ∷ two ∷ []) ≡ Failed (SampleVariance zero⁺)
+checked : fitCheck (alike 1) (two ∷ two ∷ []) ≡ Failed (SampleVariance zero⁺)
 unfolding fitCheck usable lt ofBits
 checked = rw (variances.values .p9-constant)
 

@@ -28,8 +28,9 @@ use Rattle.rows.specs.Rows.{rowOf, probability}
 use Rattle.prediction.specs.Prediction.{firstTo, firstPrediction, laterPrediction}
 use Rattle.filter.specs.Filter.{predictedRow}
 use Rattle.series.proofs.Examples as variances
+use Rattle.fit.specs.Calls.{FitOutcome}
 use Rattle.promises.specs.Demand.{exactTotal, unity, allowed, NearOne}
-use Rattle.promises.specs.Twelve.{told, quarter, most, columns, even, third, P3, P8, P9, Twelve}
+use Rattle.promises.specs.Twelve.{told, quarter, three-quarters, columns, alike, third, P3, P8, P9, Twelve}
 use Rattle.promises.proofs.ConstantSeries as constant
 
 -- ---- P3
@@ -41,7 +42,7 @@ p3 = record { sixteen-one = refl; six-two = refl; two-eight = refl; seven-two = 
 -- ---- the checks of P4, P6 and P10, and P11's durations
 
 record Checked : Type 0 where
-  pub p4 : parameterCheck (columns 0 quarter most quarter most) ≡ Passed
+  pub p4 : parameterCheck (alike 0) ≡ Passed
   pub p6 : parameterCheck (columns 0 one zero⁺ zero⁺ one) ≡ Passed
   pub p10 : told (parameterCheck (columns 0 one zero⁺ half (float 0x3FDF_5C28_F5C2_8F5C))) ≡ saying 14 1 (float 0x3FEF_AE14_7AE1_47AE)
 
@@ -49,13 +50,13 @@ checked : Checked
 unfolding parameterCheck meanCheck entryCheck columnCheck arCheck varianceCheck columnSum sumUp isProbability usable each magnitudeOf lt le eq ofBits mul div add sub neg sum round size units odd span climb ofFields trailingZeros
 checked = record { p4 = refl; p6 = refl; p10 = refl }
 
-durations : durationsOf (columns 0 most quarter zero⁺ one) ≡ record { check = Passed; values = float 0x4010_0000_0000_0000 ∷ inf false ∷ replicate 14 zero⁺ }
+durations : durationsOf (columns 0 three-quarters quarter zero⁺ one) ≡ record { check = Passed; values = float 0x4010_0000_0000_0000 ∷ inf false ∷ replicate 14 zero⁺ }
 unfolding durationsOf duration fillAt tab parameterCheck meanCheck entryCheck columnCheck arCheck varianceCheck columnSum sumUp isProbability usable each magnitudeOf lt le eq ofBits mul div add sub neg sum round size units odd span climb ofFields trailingZeros
 durations = refl
 
 -- ---- P5, from the shares of P4
 
-first : rowOf 2 1 (firstPrediction even (quarter ∷ most ∷ replicate 14 zero⁺))
+first : rowOf 2 1 (firstPrediction (alike 1) (quarter ∷ three-quarters ∷ replicate 14 zero⁺))
     ≡ float 0x3FB0_0000_0000_0000 ∷ float 0x3FC8_0000_0000_0000 ∷ float 0x3FC8_0000_0000_0000 ∷ float 0x3FE2_0000_0000_0000 ∷ []
 unfolding rowOf tab labels number firstPrediction firstTo mul ofBits
 first = refl
@@ -96,11 +97,11 @@ twelve =
       p2 = unfold tab labels number successors predecessors in (refl, refl);
       p3 = p3;
       p4 = rw (checked .p4) (shares.values .p4);
-      p5 = λ y. ap (λ (s : Shares). rowOf 2 1 (firstPrediction even (s .values))) (shares.values .p4) ∙ first;
+      p5 = λ y. ap (λ (s : Shares). rowOf 2 1 (firstPrediction (alike 1) (s .values))) (shares.values .p4) ∙ first;
       p6 = rw (checked .p6) (ap (λ (s : Shares). told (s .check)) (shares.values .p6));
       p7 = unfold rowOf tab labels number laterPrediction sumUp add mul ofBits in refl;
       p8 = p8;
-      p9 = record { spread = variances.values .p9-spread; constant = variances.values .p9-constant; fit = constant.p9-fit; gives = refl };
+      p9 = record { spread = variances.values .p9-spread; constant = variances.values .p9-constant; fit = constant.p9-fit; gives = λ maxIter tol. ap (λ (x : FitOutcome). told (x .answer .check)) (constant.p9-fit maxIter tol) };
       p10 = checked .p10;
       p11 = durations;
       p12 = unfold rootOf rootPattern wholeRoot cut size inUnits ofBits toBits in (refl, refl);

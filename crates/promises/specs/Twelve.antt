@@ -47,8 +47,8 @@ toldOf (Refused r) = said r
 abbrev pub quarter : Float
 quarter = float 0x3FD0_0000_0000_0000
 
-abbrev pub most : Float
-most = float 0x3FE8_0000_0000_0000
+abbrev pub three-quarters : Float
+three-quarters = float 0x3FE8_0000_0000_0000
 
 abbrev pub three : Float
 three = float 0x4008_0000_0000_0000
@@ -70,9 +70,9 @@ columns p a b c d =
       «variances_count» = 1;
     }
 
--- P5's parameters, and P9's
-abbrev pub even : MsarParams
-even = columns 1 quarter most quarter most
+-- both columns (0.25, 0.75): P4's and P5's, and those that P9's fit starts from
+abbrev pub alike : ℕ → MsarParams
+alike p = columns p quarter three-quarters quarter three-quarters
 
 -- ---- P8: the weights 1, 1, 1 of three labels at order 0, each divided by their sum; and the labels' probabilities in this row
 
@@ -88,7 +88,7 @@ abbrev pub orderOne : MsarSpec
 orderOne = record { «k_regimes» = 2; order = 1; «switching_ar» = false; «switching_variance» = false }
 
 abbrev pub constantFit : ℕ → Float → FitOutcome
-constantFit maxIter tol = fitCall orderOne (two ∷ two ∷ []) even maxIter tol (replicate 12 zero⁺) (replicate 2 zero⁺)
+constantFit maxIter tol = fitCall orderOne (two ∷ two ∷ []) (alike 1) maxIter tol (replicate 12 zero⁺) (replicate 2 zero⁺)
 
 -- refused with the variance +0, beside zeros; memory as lent
 abbrev pub fitRefused : FitOutcome
@@ -122,7 +122,7 @@ pub record P9 : Type 0 where
   pub spread : sampleVariance (one ∷ three ∷ []) ≡ one
   pub constant : sampleVariance (two ∷ two ∷ []) ≡ zero⁺
   pub fit : (maxIter : ℕ) (tol : Float) → constantFit maxIter tol ≡ fitRefused
-  pub gives : told (fitRefused .answer .check) ≡ saying 25 0 zero⁺
+  pub gives : (maxIter : ℕ) (tol : Float) → told (constantFit maxIter tol .answer .check) ≡ saying 25 0 zero⁺
 
 -- ---- all twelve
 
@@ -134,21 +134,21 @@ pub record Twelve : Type 0 where
   -- k,p = 16,1 and 6,2 accepted (256, 216); 2,8 and 7,2 and 17,1 give 2; 17,0 gives 3; 1,0 gives 1
   pub p3 : P3
   -- both columns (0.25, 0.75): shares 0.25, 0.75
-  pub p4 : sharesOf (columns 0 quarter most quarter most) ≡ record { check = Passed; values = quarter ∷ most ∷ replicate 14 zero⁺ }
-  -- same P, p=1, first prediction 0.0625, 0.1875, 0.1875, 0.5625; of the filter's own first row, whatever the series
-  pub p5 : (y : List Float) → predictedRow even y (startShares even) 0
+  pub p4 : sharesOf (alike 0) ≡ record { check = Passed; values = quarter ∷ three-quarters ∷ replicate 14 zero⁺ }
+  -- same P, p=1, first prediction 0.0625, 0.1875, 0.1875, 0.5625 (the filter's own first row, whatever the series)
+  pub p5 : (y : List Float) → predictedRow (alike 1) y (startShares (alike 1)) 0
       ≡ float 0x3FB0_0000_0000_0000 ∷ float 0x3FC8_0000_0000_0000 ∷ float 0x3FC8_0000_0000_0000 ∷ float 0x3FE2_0000_0000_0000 ∷ []
   -- P the 2 by 2 identity: 21
   pub p6 : told (sharesOf (columns 0 one zero⁺ zero⁺ one) .check) ≡ saying 21 0 zero⁺
   -- order 0, columns (0.5,0.5) and (0.25,0.75), previous row (0.25,0.75): prediction (0.5,0.5)
-  pub p7 : rowOf 2 0 (laterPrediction (columns 0 half half quarter most) (quarter ∷ most ∷ [])) ≡ half ∷ half ∷ []
+  pub p7 : rowOf 2 0 (laterPrediction (columns 0 half half quarter three-quarters) (quarter ∷ three-quarters ∷ [])) ≡ half ∷ half ∷ []
   -- weights 1,1,1 normalised: exact total 1 - 2^-54, allowed 3/2^52
   pub p8 : P8
   -- series 1,3: variance 1; series 2,2: 0, and a fit at order 1 gives 25
   pub p9 : P9
-  -- columns (1,0) and (0.5,0.49): 14, column 1; it carries the sum 0.99
+  -- columns (1,0) and (0.5,0.49): 14, column 1 (it carries the column's sum, 0.99)
   pub p10 : told (parameterCheck (columns 0 one zero⁺ half (float 0x3FDF_5C28_F5C2_8F5C))) ≡ saying 14 1 (float 0x3FEF_AE14_7AE1_47AE)
   -- stay probabilities 0.75 and 1: durations 4 and +infinity
-  pub p11 : durationsOf (columns 0 most quarter zero⁺ one) ≡ record { check = Passed; values = float 0x4010_0000_0000_0000 ∷ inf false ∷ replicate 14 zero⁺ }
+  pub p11 : durationsOf (columns 0 three-quarters quarter zero⁺ one) ≡ record { check = Passed; values = float 0x4010_0000_0000_0000 ∷ inf false ∷ replicate 14 zero⁺ }
   -- root of 4 is 2; root of 2 has bits 3FF6A09E667F3BCD
   pub p12 : (rootOf (float 0x4010_0000_0000_0000) ≡ two) × (patternOf (rootOf two) ≡ 0x3FF6_A09E_667F_3BCD)

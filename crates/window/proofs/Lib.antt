@@ -8,7 +8,5 @@ pub mod Table
 pub mod Given
 -- rows and times
 pub mod Times
--- P1 and P2
-pub mod Examples
 -- labels now run round
 pub mod Round
