@@ -8,7 +8,7 @@ use lib.Dec.{lit≤}
 use lib.Count.{trailingZeros}
 use lib.ListN.{replicate}
 use lib.Ieee.{Float, inf, lt, le, eq, ofBits, toBits, mul, div, add, sub, neg, sum, round, size, units, odd, span, climb, ofFields}
-use Rattle.number.specs.Number.{_⊘_, float, zero⁺, half, one, two, magnitudeOf, usable}
+use Rattle.number.specs.Number.{_≤?_, _=?_, _⊘_, float, zero⁺, half, one, two, magnitudeOf, usable}
 use Rattle.number.specs.Sums.{sumUp}
 use Rattle.number.specs.Table.{_!_, tab, fillAt}
 use Rattle.number.proofs.Table.{fill-at}
@@ -163,6 +163,10 @@ pub p8 : {total : Float} {row work table : List Float} → total ≡ sumUp (λ a
     → unitsOf (table ! 0) + unitsOf (table ! 1) + unitsOf (table ! 2) ≡ 0x3F_FFFF_FFFF_FFFF
 unfolding unitsOf labelSumAt labelSum sumUp fillAt tab add div ofBits toBits
 p8 e f g h = rw (h, g, f, e)
+
+-- the exact total, and that it is within 12 units of 2 ^ -54, which are 3 / 2 ^ 52, of one
+pub within : {n : ℕ} → n ≡ 0x3F_FFFF_FFFF_FFFF → (n =? 0x3F_FFFF_FFFF_FFFF && n ≤? 0x40_0000_0000_0000 + 12 && 0x40_0000_0000_0000 ≤? n + 12) ≡ true
+within e = rw e
 
 -- ---- the root
 

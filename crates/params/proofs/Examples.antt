@@ -1,20 +1,18 @@
--- Document 01's P10 and P11, and a record for each refusal of the parameters. Assumes nothing.
+-- Parameters for each refusal on themselves but 14, which is document 01's P10. Assumes nothing.
 use mathlib.Core.Path.{_≡_, refl}
-use mathlib.Core.Bool.{true, false}
+use mathlib.Core.Bool.{true}
 use mathlib.Core.List.{List, [], _∷_, _++_}
 use Prim.Native.Nat.{ℕ, _-_}
 use lib.ListN.{replicate, length}
 use lib.Count.{trailingZeros}
-use lib.Ieee.{Float, inf, nan, lt, le, eq, ofBits, mul, div, add, sub, neg, sum, round, size, units, odd, span, climb, ofFields}
+use lib.Ieee.{Float, inf, nan, lt, le, eq, ofBits, mul, add, sub, neg, sum, round, size, units, odd, span, climb, ofFields}
 use Rattle.number.specs.Number.{float, zero⁺, half, one, magnitudeOf, usable}
-use Rattle.number.specs.Table.{tab, fillAt}
 use Rattle.number.specs.Sums.{sumUp}
 use Rattle.refusal.specs.Checks.{each}
-use Rattle.refusal.specs.declared.Check.the-variants.{Passed, Failed}
-use Rattle.refusal.specs.declared.Refusal.the-variants.{FewMeans, Beyond, Mean, Length, Transition, Column, NoAr, Ar, Variance}
+use Rattle.refusal.specs.declared.Check.the-variants.{Failed}
+use Rattle.refusal.specs.declared.Refusal.the-variants.{FewMeans, Beyond, Mean, Length, Transition, NoAr, Ar, Variance}
 use Rattle.params.specs.declared.MsarParams.{MsarParams}
 use Rattle.params.specs.Checks.{isProbability, columnSum, meanCheck, entryCheck, columnCheck, arCheck, varianceCheck, parameterCheck}
-use Rattle.params.specs.Durations.{duration, durationsOf}
 
 -- an array whose first places are these, the others zero
 abbrev pub padded : ℕ → List Float → List Float
@@ -52,16 +50,7 @@ means = zero⁺ ∷ one ∷ []
 abbrev pub variances : List Float
 variances = one ∷ []
 
-pub record Values : Type 0 where
-  -- columns (1, 0) and (0.5, 0.49)
-  pub p10 : parameterCheck (params 2 4 1 0 0 1 (one ∷ half ∷ zero⁺ ∷ float 0x3FDF_5C28_F5C2_8F5C ∷ []) means [] variances) ≡ Failed (Column 1 (float 0x3FEF_AE14_7AE1_47AE))
-  pub p11 : durationsOf (params 2 4 1 0 0 1 steps means [] variances) ≡ record { check = Passed; values = padded 16 (float 0x4010_0000_0000_0000 ∷ inf false ∷ []) }
-
-pub values : Values
-unfolding durationsOf duration fillAt tab parameterCheck meanCheck entryCheck columnCheck arCheck varianceCheck columnSum sumUp isProbability usable each magnitudeOf lt le eq ofBits mul div add sub neg sum round size units odd span climb ofFields trailingZeros
-values = record { p10 = refl; p11 = refl }
-
--- each other refusal, by its number
+-- each refusal, by its number
 pub record Refused : Type 0 where
   pub ten : parameterCheck (params 1 4 1 0 0 1 steps means [] variances) ≡ Failed (FewMeans 1)
   pub eighteen-means : parameterCheck (params 17 4 1 0 0 1 steps means [] variances) ≡ Failed (Beyond 17)

@@ -8,5 +8,5 @@ pub mod Within
 pub mod Again
 -- no second outcome satisfies a contract
 pub mod Unique
--- document 01's P10 and P11, and one record for each refusal
+-- one record for each refusal
 pub mod Examples

@@ -4,5 +4,3 @@ mod Places
 mod Turns
 -- what the rows hold
 pub mod Predicted
--- P5 and P7
-pub mod Examples

@@ -1,122 +1,108 @@
--- Document 01's twelve proved examples, in one list with one theorem; each statement stands with the crate that it is about. Assumes nothing.
-use mathlib.Core.Path.{_≡_, ap, _∙_}
+-- Document 01's twelve proved examples, computed of the definitions. Assumes nothing.
+use mathlib.Core.Path.{_≡_, refl, sym, ap, subst, _∙_}
+use mathlib.Core.Bool.{false}
 use mathlib.Core.List.{List, [], _∷_}
-use Prim.Native.Nat.{ℕ}
-use lib.Ieee.{Float}
-use Rattle.number.specs.Number.{float, zero⁺, one, half}
-use Rattle.refusal.specs.Refusals.{Said, saying, said}
-use Rattle.refusal.specs.declared.Check.{Check}
-use Rattle.refusal.specs.declared.Check.the-variants.{Passed, Failed}
-use Rattle.root.proofs.Values.{P12, p12}
-use Rattle.rounding.proofs.Rows.{P8, p8}
-use Rattle.window.proofs.Examples as windows
-use Rattle.spec.proofs.Examples as specs
-use Rattle.spec.specs.Spec.{windowCount}
-use Rattle.spec.specs.declared.Windows.{Windows}
-use Rattle.spec.specs.declared.Windows.the-variants.{Count, Refused}
-use Rattle.stationary.proofs.Examples as shares
-use Rattle.stationary.specs.Stationary.{solvedShares}
+use Prim.Native.Nat.{ℕ, zero, suc, _+_, _-_, _^_, _≤_, _<_}
+use native.Mathlib.Nat.{le-of-suc-le-suc, not-suc-le-zero}
+use lib.Count.{trailingZeros}
+use lib.Dec.{T, lit≤}
+use lib.ListN.{replicate}
+use lib.Ieee.{Float, inf, binary64, fits, add, sub, mul, div, neg, lt, le, eq, sum, round, size, units, odd, span, climb, ofBits, toBits, ofFields}
+use Rattle.number.specs.Number.{float, zero⁺, half, one, magnitudeOf, usable}
+use Rattle.number.specs.Sums.{sumUp}
+use Rattle.number.specs.Table.{tab, fillAt}
+use Rattle.rounding.specs.Units.{inUnits}
+use Rattle.rounding.specs.Sums.{good}
+use Rattle.root.specs.Root.{rootOf, rootPattern, wholeRoot, cut}
+use Rattle.window.specs.Windows.{labels, number, successors, predecessors}
+use Rattle.refusal.specs.Refusals.{saying}
+use Rattle.refusal.specs.Checks.{each}
+use Rattle.refusal.specs.declared.Check.the-variants.{Passed}
+use Rattle.spec.specs.Spec.{specCheck, windowCount}
+use Rattle.params.specs.Checks.{isProbability, columnSum, meanCheck, entryCheck, columnCheck, arCheck, varianceCheck, parameterCheck}
+use Rattle.params.specs.Durations.{duration, durationsOf}
+use Rattle.stationary.specs.Stationary.{sharesOf}
 use Rattle.stationary.specs.declared.Shares.{Shares}
-use Rattle.params.proofs.Examples as parameters
-use Rattle.params.specs.declared.MsarParams.{MsarParams}
-use Rattle.params.specs.Checks.{parameterCheck}
+use Rattle.stationary.proofs.Examples as shares
+use Rattle.rows.specs.Rows.{rowOf, probability}
+use Rattle.prediction.specs.Prediction.{firstTo, firstPrediction, laterPrediction}
+use Rattle.filter.specs.Filter.{predictedRow}
 use Rattle.series.proofs.Examples as variances
-use Rattle.rows.specs.Rows.{rowOf}
-use Rattle.prediction.specs.Prediction.{firstPrediction}
-use Rattle.prediction.proofs.Examples as predictions
-use Rattle.filter.specs.Filter.{predictedRow, startShares}
-use Rattle.fit.specs.Calls.{FitOutcome, fitCall}
+use Rattle.fit.specs.Calls.{FitOutcome}
+use Rattle.rounding.specs.NearOne.{exactTotal, unity, allowed, NearOne}
+use Rattle.promises.specs.Twelve.{told, quarter, three-quarters, columns, alike, third, P3, P8, P9, Twelve}
 use Rattle.promises.proofs.ConstantSeries as constant
 
--- P5's parameters: two labels, order 1, both columns (0.25, 0.75)
-abbrev even : MsarParams
-even = predictions.params 1 predictions.quarter predictions.quarter predictions.most predictions.most
+-- ---- P3
 
--- P5 of the filter's own first row, from the stationary shares, whatever the series
-abbrev P5 : Type 0
-P5 = (y : List Float) → predictedRow even y (startShares even) 0
+p3 : P3
+unfolding windowCount specCheck
+p3 = record { sixteen-one = refl; six-two = refl; two-eight = refl; seven-two = refl; seventeen-one = refl; seventeen-zero = refl; one-zero = refl }
+
+-- ---- the checks of P4, P6 and P10, and P11's durations
+
+record Checked : Type 0 where
+  pub p4 : parameterCheck (alike 0) ≡ Passed
+  pub p6 : parameterCheck (columns 0 one zero⁺ zero⁺ one) ≡ Passed
+  pub p10 : told (parameterCheck (columns 0 one zero⁺ half (float 0x3FDF_5C28_F5C2_8F5C))) ≡ saying 14 1 (float 0x3FEF_AE14_7AE1_47AE)
+
+checked : Checked
+unfolding parameterCheck meanCheck entryCheck columnCheck arCheck varianceCheck columnSum sumUp isProbability usable each magnitudeOf lt le eq ofBits mul div add sub neg sum round size units odd span climb ofFields trailingZeros
+checked = record { p4 = refl; p6 = refl; p10 = refl }
+
+durations : durationsOf (columns 0 three-quarters quarter zero⁺ one) ≡ record { check = Passed; values = float 0x4010_0000_0000_0000 ∷ inf false ∷ replicate 14 zero⁺ }
+unfolding durationsOf duration fillAt tab parameterCheck meanCheck entryCheck columnCheck arCheck varianceCheck columnSum sumUp isProbability usable each magnitudeOf lt le eq ofBits mul div add sub neg sum round size units odd span climb ofFields trailingZeros
+durations = refl
+
+-- ---- P5, from the shares of P4
+
+first : rowOf 2 1 (firstPrediction (alike 1) (quarter ∷ three-quarters ∷ replicate 14 zero⁺))
     ≡ float 0x3FB0_0000_0000_0000 ∷ float 0x3FC8_0000_0000_0000 ∷ float 0x3FC8_0000_0000_0000 ∷ float 0x3FE2_0000_0000_0000 ∷ []
+unfolding rowOf tab labels number firstPrediction firstTo mul ofBits
+first = refl
 
-p5 : P5
-unfolding predictedRow
-p5 y = ap (λ (s : Shares). rowOf 2 1 (firstPrediction even (s .values))) (shares.values .p4) ∙ predictions.values .p5
+-- ---- P8
 
--- ---- refusals in document 01's numbers: number, place, value, all zero where nothing is refused
+total-is : exactTotal 3 third ≡ 2 ^ 1074 - 2 ^ 1020
+unfolding probability rowOf tab labels number sumUp inUnits add div ofBits
+total-is = refl
 
-abbrev told : Check → Said
-told Passed = saying 0 0 zero⁺
-told (Failed r) = said r
+each-good : (s : ℕ) → s < 3 → T (good binary64 (third s))
+unfolding probability rowOf tab labels number sumUp add div le fits ofBits
+each-good zero h = tt
+each-good (suc zero) h = tt
+each-good (suc (suc zero)) h = tt
+each-good (suc (suc (suc s))) h = absurd (not-suc-le-zero (le-of-suc-le-suc (le-of-suc-le-suc (le-of-suc-le-suc h))))
 
--- of a window count
-abbrev toldOf : Windows → Said
-toldOf (Count m) = saying 0 m zero⁺
-toldOf (Refused r) = said r
-
--- ---- P9: the variances of its two series, and the fit, whatever passes and tolerance are allowed
-
-pub record P9 : Type 0 where
-  pub sample-variances : variances.Values
-  pub fit : (maxIter : ℕ) (tol : Float) → fitCall constant.spec constant.series constant.params maxIter tol constant.work constant.table ≡ constant.refused
-  -- in numbers: 25, which carries the variance +0
-  pub told-fit : (maxIter : ℕ) (tol : Float)
-      → told (fitCall constant.spec constant.series constant.params maxIter tol constant.work constant.table .answer .check) ≡ saying 25 0 zero⁺
-
-p9 : P9
-p9 =
+p8 : P8
+p8 =
     record {
-      sample-variances = variances.values;
-      fit = constant.p9-fit;
-      told-fit = λ maxIter tol. ap (λ (x : FitOutcome). told (x .answer .check)) (constant.p9-fit maxIter tol);
+      exact-total = total-is;
+      allowed-is = refl;
+      within =
+          record {
+            each = each-good;
+            not-above = subst (λ (n : ℕ). n ≤ unity + allowed 3) (sym total-is) (lit≤ tt);
+            not-below = subst (λ (n : ℕ). unity ≤ n + allowed 3) (sym total-is) (lit≤ tt);
+          };
     }
 
--- ---- P3, P6 and P10 once more, in these numbers
-
-pub record InNumbers : Type 0 where
-  pub two-eight : toldOf (windowCount 2 8) ≡ saying 2 2 zero⁺
-  pub seven-two : toldOf (windowCount 7 2) ≡ saying 2 7 zero⁺
-  pub seventeen-one : toldOf (windowCount 17 1) ≡ saying 2 17 zero⁺
-  pub seventeen-zero : toldOf (windowCount 17 0) ≡ saying 3 17 zero⁺
-  pub one-zero : toldOf (windowCount 1 0) ≡ saying 1 1 zero⁺
-  pub p6 : told (solvedShares 2 (shares.two-by-two one zero⁺ zero⁺ one) .check) ≡ saying 21 0 zero⁺
-  pub p10 :
-      told (parameterCheck (parameters.params 2 4 1 0 0 1 (one ∷ half ∷ zero⁺ ∷ float 0x3FDF_5C28_F5C2_8F5C ∷ []) parameters.means [] parameters.variances))
-      ≡ saying 14 1 (float 0x3FEF_AE14_7AE1_47AE)
-
-in-numbers : InNumbers
-in-numbers =
-    record {
-      two-eight = ap toldOf (specs.p3 .two-eight);
-      seven-two = ap toldOf (specs.p3 .seven-two);
-      seventeen-one = ap toldOf (specs.p3 .seventeen-one);
-      seventeen-zero = ap toldOf (specs.p3 .seventeen-zero);
-      one-zero = ap toldOf (specs.p3 .one-zero);
-      p6 = ap (λ (s : Shares). told (s .check)) (shares.values .p6);
-      p10 = ap told (parameters.values .p10);
-    }
-
-pub record Twelve : Type 0 where
-  pub p1-p2 : windows.Values
-  pub p3 : specs.P3
-  pub p4-p6 : shares.Values
-  pub p5 : P5
-  pub p5-p7 : predictions.Values
-  pub p8 : P8
-  pub p9 : P9
-  pub p10-p11 : parameters.Values
-  pub p12 : P12
-  pub p3-p6-p10 : InNumbers
+-- ---- all twelve
 
 pub twelve : Twelve
+unfolding predictedRow sharesOf
 twelve =
     record {
-      p1-p2 = windows.values;
-      p3 = specs.p3;
-      p4-p6 = shares.values;
-      p5 = p5;
-      p5-p7 = predictions.values;
+      p1 = unfold tab labels number successors predecessors in (refl, refl, refl);
+      p2 = unfold tab labels number successors predecessors in (refl, refl);
+      p3 = p3;
+      p4 = rw (checked .p4) (shares.values .p4);
+      p5 = λ y. ap (λ (s : Shares). rowOf 2 1 (firstPrediction (alike 1) (s .values))) (shares.values .p4) ∙ first;
+      p6 = rw (checked .p6) (ap (λ (s : Shares). told (s .check)) (shares.values .p6));
+      p7 = unfold rowOf tab labels number laterPrediction sumUp add mul ofBits in refl;
       p8 = p8;
-      p9 = p9;
-      p10-p11 = parameters.values;
-      p12 = p12;
-      p3-p6-p10 = in-numbers;
+      p9 = record { spread = variances.values .p9-spread; constant = variances.values .p9-constant; fit = constant.p9-fit; gives = λ maxIter tol. ap (λ (x : FitOutcome). told (x .answer .check)) (constant.p9-fit maxIter tol) };
+      p10 = checked .p10;
+      p11 = durations;
+      p12 = unfold rootOf rootPattern wholeRoot cut size inUnits ofBits toBits in (refl, refl);
     }

@@ -32,22 +32,22 @@ use Rattle.binding.specs.declared.Tables.the-variants.{One}
 use Rattle.rows.specs.Rows.{rowOf}
 use Rattle.density.specs.Density.{meanTo, normal, density}
 use Rattle.prediction.specs.Prediction.{firstTo, firstPrediction}
-use Rattle.prediction.proofs.Examples as predictions
 use Rattle.filter.specs.Filter.{weight, total, predictedRow, likelihood, likelihoodCheck, runCheck, answerOf, startShares}
 use Rattle.model.specs.Calls.{filterCall}
 use Rattle.promises.specs.Demand.{NotBelow, Asked}
+use Rattle.promises.specs.Twelve.{quarter, three-quarters, alike}
 
 abbrev spec : MsarSpec
 spec = record { «k_regimes» = 2; order = 0; «switching_ar» = false; «switching_variance» = false }
 
 abbrev params : MsarParams
-params = predictions.params 0 predictions.quarter predictions.quarter predictions.most predictions.most
+params = alike 0
 
 abbrev series : List Float
 series = one ∷ []
 
 abbrev start : List Float
-start = predictions.quarter ∷ predictions.most ∷ replicate 14 zero⁺
+start = quarter ∷ three-quarters ∷ replicate 14 zero⁺
 
 admitted : admittedCheck spec series params 6 (One 2) ≡ Passed
 unfolding admittedCheck boundCheck specCheck seriesCheck readingCheck paramsCheck matchesSpec parameterCheck meanCheck entryCheck columnCheck arCheck varianceCheck columnSum sumUp isProbability usable each magnitudeOf lt le eq ofBits mul div add sub neg sum round size units odd span climb ofFields trailingZeros

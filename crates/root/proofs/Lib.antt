@@ -14,5 +14,5 @@ mod Nearest
 pub mod Theorem
 -- what the tests of `root` say
 mod Cases
--- values, document 01's P12 among them
+-- values
 pub mod Values

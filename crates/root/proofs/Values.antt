@@ -1,18 +1,10 @@
--- Values of the root, computed from its definition; document 01's P12 first. Assumes nothing.
+-- Values of the root at the ends of its range and of what is no number above zero, computed from its definition. Assumes nothing.
 use mathlib.Core.List.{[], _∷_}
 use lib.Dec.{T}
 use lib.Ieee.{ofBits, toBits, size}
 use Rattle.number.proofs.Values.{agrees, _gives_}
 use Rattle.rounding.specs.Units.{inUnits}
 use Rattle.root.specs.Root.{rootOf, rootPattern, wholeRoot, cut}
-
--- the root of 4 is 2, and that of 2
-pub record P12 : Type 0 where
-  pub values : T (agrees rootOf (0x4010_0000_0000_0000 gives 0x4000_0000_0000_0000 ∷ 0x4000_0000_0000_0000 gives 0x3FF6_A09E_667F_3BCD ∷ []))
-
-pub p12 : P12
-unfolding rootOf rootPattern wholeRoot cut size inUnits ofBits toBits
-p12 = record { values = tt }
 
 pub root-values : T (agrees rootOf (
     0x0000_0000_0000_0001 gives 0x1E60_0000_0000_0000  -- the smallest number above zero, 2 ^ -1074, and the largest, 2 ^ 1024 - 2 ^ 971

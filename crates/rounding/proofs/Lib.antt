@@ -30,7 +30,7 @@ pub mod Sums
 pub mod Quotients
 -- the parts of a list by label sum to the whole
 pub mod Parts
--- demand 3 for one row of weights, and document 01's P8
+-- demand 3 for one row of weights
 pub mod Rows
 -- ---- bounds on the size, at binary64
 -- through the operations

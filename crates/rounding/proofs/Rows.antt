@@ -6,11 +6,10 @@ use mathlib.Core.List.{List, [], _∷_}
 use Prim.Native.Nat.{ℕ, suc, _+_, _-_, _*_, _^_, _≤_, _<_}
 use native.Mathlib.Nat.{le-trans, le-of-eq, lt-of-lt-of-le, le-of-suc-le-suc, mul-le-mul-left, mul-le-mul-right, le-of-mul-le-mul-left, le-of-mul-le-mul-right}
 use native.Mathlib.Omega.{arith}
-use lib.IntN.{pos}
 use lib.Dec.{T, lit≤}
 use lib.ListN.{length, length-map}
 use lib.Pow.{pow-pos, pow-add, pow-mono}
-use lib.Ieee.{Float, fin, Format, binary32, binary64, prec, low, add, div, lt, ofBits}
+use lib.Ieee.{Float, Format, binary32, binary64, prec, low, div, lt, ofBits}
 use lib.Ieee.Scale.{overflow, finite}
 use Rattle.number.specs.Number.{zero⁺}
 use Rattle.rounding.specs.Units.{inUnits}
@@ -141,11 +140,3 @@ demand-3 k ws K few g t p =
 -- the same where each weight is known only to be of the format and not below zero, or a NaN: since their sum is finite, each is good
 pub demand-3-of : (k : ℕ) (ws : List Float) → 0 < k → length ws ≤ 256 → T (every (notBelow binary64) ws) → T (finite (total binary64 ws)) → T (lt zero⁺ (total binary64 ws)) → NearOne k (length ws) (labelShare binary64 k ws)
 demand-3-of k ws K few g t p = demand-3 k ws K few (all-good binary64 ws g t) t p
-
--- document 01's P8: the weights 1, 1, 1 of three labels have the exact total 1 - 2 ^ -54
-pub record P8 : Type 0 where
-  pub exact-total : sumTo (λ i. inUnits binary64 (labelShare binary64 3 (fin false 1 (pos 0) ∷ fin false 1 (pos 0) ∷ fin false 1 (pos 0) ∷ []) i)) 3 ≡ 2 ^ 1074 - 2 ^ 1020
-
-pub p8 : P8
-unfolding inUnits add div ofBits
-p8 = record { exact-total = refl }

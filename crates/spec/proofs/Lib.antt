@@ -2,5 +2,3 @@
 pub mod Count
 -- no second outcome satisfies the contract
 pub mod Unique
--- document 01's P3
-pub mod Examples

@@ -1,4 +1,4 @@
--- Document 01's P4 and P6, and shares that are not clipped. Assumes nothing.
+-- The solved shares of document 01's P4 and P6, which the proofs of crates/promises and crates/cases cite. Assumes nothing.
 use mathlib.Core.Path.{_≡_, refl}
 use mathlib.Core.List.{List, [], _∷_, _++_}
 use Prim.Native.Nat.{ℕ}

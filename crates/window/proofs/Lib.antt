@@ -6,7 +6,5 @@ pub mod Neighbours
 pub mod Table
 -- the code's arithmetic
 pub mod Given
--- P1 and P2
-pub mod Examples
 -- labels now run round
 pub mod Round

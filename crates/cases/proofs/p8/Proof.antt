@@ -2,8 +2,7 @@
 use Prim.Native.Nat.{ℕ, _+_}
 use mathlib.Core.Path.{ap₂, _∙_}
 use borrow.Author.Needs.{needs}
-use borrow.Author.Tests.{eq-eqb}
-use Rattle.cases.proofs.Values.{p8}
+use Rattle.cases.proofs.Values.{p8, within}
 use Rattle.cases.proofs.p8.Statement.{statement}
 use Rattle.cases.proofs.p8.Tie as tie
 
@@ -49,8 +48,8 @@ array-read-in-units-2 c = search needs
 in-units-requires-2 : tie.Need-in-units-requires-2
 in-units-requires-2 c κs = search needs
 
-add-result : tie.Need-add-result
-add-result c = search needs
+add-exact : tie.Need-add-exact
+add-exact c = search needs
 
 array-read-in-units-3 : tie.Need-array-read-in-units-3
 array-read-in-units-3 c = search needs
@@ -58,12 +57,18 @@ array-read-in-units-3 c = search needs
 in-units-requires-3 : tie.Need-in-units-requires-3
 in-units-requires-3 c κs = search needs
 
+add-exact-2 : tie.Need-add-exact-2
+add-exact-2 c = search needs
+
+add-result : tie.Need-add-result
+add-result c = search needs
+
 add-result-2 : tie.Need-add-result-2
 add-result-2 c = search needs
 
 returns : tie.Need-returns
 returns c =
-    eq-eqb _ _
+    within
     (ap₂ (λ (a b : ℕ). a + b) (ap₂ (λ (a b : ℕ). a + b) (c .before .before .in-units .ensures .0) (c .before .in-units2 .ensures .0)) (c .in-units3 .ensures .0)
     ∙ p8 (c .before .before .before .before .before .before .before .before .before .before .before .before .before .sum-of .ensures) (c .before .before .before .before .before .before .before .before .before .before .before .divide .ensures) (c .before .before .before .before .before .before .before .before .store .ensures) (c .before .before .before .before .tabulate .ensures))
 
@@ -85,8 +90,10 @@ p8-spec =
     in-units-requires
     array-read-in-units-2
     in-units-requires-2
-    add-result
+    add-exact
     array-read-in-units-3
     in-units-requires-3
+    add-exact-2
+    add-result
     add-result-2
     returns)
