@@ -11,8 +11,11 @@ pub mod Update
 -- the filter's rows are such rows
 pub mod Filtered
 -- the tables of the calls
+pub mod Numbers
 pub mod Tables
 -- a call that meets what demand 3 asks first
 pub mod Witness
 -- ---- one outcome of each contract
+pub mod Contracts
+pub mod EntryPoints
 pub mod OneOutcome
