@@ -2,5 +2,3 @@
 pub mod Counting
 -- the new table is the definition's, and only the weights of the rows count
 pub mod Dividing
--- no second outcome satisfies the contract
-pub mod Unique

@@ -20,5 +20,3 @@ mod Over
 pub mod Signed
 -- values, as Java gives them
 pub mod Values
--- no second outcome satisfies the contract
-pub mod Unique

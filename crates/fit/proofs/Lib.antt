@@ -4,5 +4,3 @@ pub mod OnePass
 pub mod Going
 -- what a fit leaves
 pub mod Ends
--- no second outcome satisfies the contract
-pub mod Unique

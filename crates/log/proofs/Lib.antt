@@ -6,5 +6,3 @@ mod Bound
 pub mod Size
 -- values, as Java gives them
 pub mod Values
--- no second outcome satisfies the contract
-pub mod Unique

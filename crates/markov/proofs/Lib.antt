@@ -1,4 +1,3 @@
 pub mod Apart
 pub mod Kit
 pub mod Thin
-pub mod Unique

@@ -8,5 +8,3 @@ pub mod Walk
 pub mod Tables
 -- rows with the same weights
 pub mod Same
--- no second outcome satisfies the contract
-pub mod Unique

@@ -4,5 +4,3 @@ pub mod Runs
 pub mod Admitted
 -- the outcomes of the calls
 pub mod Outcomes
--- no second outcome satisfies a contract
-pub mod Unique

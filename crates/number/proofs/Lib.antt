@@ -4,7 +4,5 @@ pub mod Cases
 pub mod Sums
 -- rows and tables
 pub mod Table
--- no second outcome satisfies a contract
-pub mod Unique
 -- values of a function as a list of bit patterns, which the crates above prove of theirs
 pub mod Values

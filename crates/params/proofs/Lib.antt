@@ -6,7 +6,5 @@ pub mod Order
 pub mod Within
 -- a built record passes the checks again
 pub mod Again
--- no second outcome satisfies a contract
-pub mod Unique
 -- one record for each refusal
 pub mod Examples

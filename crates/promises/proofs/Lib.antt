@@ -14,5 +14,10 @@ pub mod Filtered
 pub mod Tables
 -- a call that meets what demand 3 asks first
 pub mod Witness
--- ---- one outcome of each contract
+-- ---- the entry points, and one outcome of each contract
+-- the laws on contracts
+pub mod Contracts
+-- the entry points, a line for each
+pub mod EntryPoints
+-- both lists
 pub mod OneOutcome

@@ -4,7 +4,7 @@ use mathlib.Core.Path.{_≡_, refl, sym, ap, ap₂, subst, _∙_}
 use mathlib.Core.List.{List, []}
 use Prim.Native.Nat.{ℕ, _+_, _*_, _<_}
 use lib.Arith.{digits-lt, digits-div, digits-mod}
-use lib.ListN.{length}
+use lib.ListN.{length, getD}
 use lib.Ieee.{Float}
 use Rattle.number.specs.Table.{_!_, cell}
 use Rattle.number.proofs.Table.{fill-at}
@@ -12,6 +12,7 @@ use Rattle.window.specs.Shape.{Shape}
 use Rattle.refusal.specs.declared.Check.{Check}
 use Rattle.refusal.specs.declared.Check.the-variants.{Passed, Failed}
 use Rattle.refusal.proofs.Checks.{both}
+use Rattle.refusal.proofs.Numbers.{number-above}
 use Rattle.spec.specs.declared.MsarSpec.{MsarSpec}
 use Rattle.params.specs.declared.MsarParams.{MsarParams}
 use Rattle.params.specs.Parameters.{k, p}
@@ -25,7 +26,8 @@ use Rattle.filter.specs.Filter.{filteredRow, rowCount, startShares, runCheck, a
 use Rattle.model.specs.Calls.{Outcome, called, filteredTable, filterCall, smoothCall}
 use Rattle.model.proofs.Admitted.{is-admitted}
 use Rattle.model.proofs.Runs.{run-says}
-use Rattle.promises.specs.Demand.{NotBelow, Demand3, Asked, Demand}
+use Rattle.c_interface.specs.Interface.{spelled, left}
+use Rattle.promises.specs.Demand.{NotBelow, Demand3, Asked, AskedFromC, Demand}
 use Rattle.promises.proofs.Update.{near-same}
 use Rattle.promises.proofs.Filtered.{filtered-near-one}
 
@@ -82,10 +84,33 @@ call-keeps S y q lent tables work found smoothed run answer table asked =
     let ran = run-says q y answer (sym (ap (λ (o : Outcome). o .answer .check) (c .1)) ∙ asked .answers) in
     subst (Demand3 q y) (sym (ap (λ (o : Outcome). o .filtered) (c .1) ∙ table)) (filtered-table S y q lent tables (c .0) ran (asked .shares) found)
 
+of-filter : (S : MsarSpec) (y : List Float) (q : MsarParams) (work filtered : List Float)
+    → Asked q (filterCall S y q work filtered) → Demand3 q y (filterCall S y q work filtered .filtered)
+unfolding filterCall
+of-filter S y q work filtered = call-keeps S y q (length work) (One (length filtered)) work filtered [] _ refl refl
+
+of-smooth : (S : MsarSpec) (y : List Float) (q : MsarParams) (work filtered smoothed : List Float)
+    → Asked q (smoothCall S y q work filtered smoothed) → Demand3 q y (smoothCall S y q work filtered smoothed .filtered)
+unfolding smoothCall
+of-smooth S y q work filtered smoothed = call-keeps S y q (length work) (Two (length filtered) (length smoothed)) work filtered smoothed _ refl refl
+
+-- ---- from C
+
+-- no refusal has the number 0, so `whole` begins with 0 only where the call answers
+answered : (c : Check) (loglik : Float) → getD (spelled c 0 loglik .whole) 0 1 ≡ 0 → c ≡ Passed
+answered Passed loglik e = refl
+answered (Failed r) loglik e = absurd (number-above r e)
+
+from-c : (q : MsarParams) (o : Outcome) → AskedFromC q (left o) → Asked q o
+unfolding left
+from-c q o a = record { answers = answered (o .answer .check) (o .answer .loglik) (a .answers); shares = a .shares }
+
 pub demand : Demand
-unfolding filterCall smoothCall
+unfolding left
 demand =
     record {
-      filter = λ S y q work filtered. call-keeps S y q (length work) (One (length filtered)) work filtered [] _ refl refl;
-      smooth = λ S y q work filtered smoothed. call-keeps S y q (length work) (Two (length filtered) (length smoothed)) work filtered smoothed _ refl refl;
+      filter = of-filter;
+      smooth = of-smooth;
+      msar-filter = λ k order ar variance y counts numbers work filtered a. of-filter _ y _ work filtered (from-c _ _ a);
+      msar-smooth = λ k order ar variance y counts numbers work filtered smoothed a. of-smooth _ y _ work filtered smoothed (from-c _ _ a);
     }

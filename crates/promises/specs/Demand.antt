@@ -1,11 +1,12 @@
--- Demand 3, of the tables that `filter` and `smooth` leave with their caller: "Where the filter answers and no stationary share is below zero,
--- every filtered probability is at least zero, and each row's exact total differs from one by at most m / 2^52, m being the number of windows."
--- What this says of one row is `NearOne` (crates/rounding/specs/NearOne.antt).
--- The rows are demand 2's, since the tables are those of the calls' own definitions.
+-- Demand 3, of the tables that `filter` and `smooth`, and from C `msar_filter` and `msar_smooth`, leave with their caller: "Where the filter answers
+-- and no stationary share is below zero, every filtered probability is at least zero, and each row's exact total differs from one by at most
+-- m / 2^52, m being the number of windows." What this says of one row is `NearOne` (crates/rounding/specs/NearOne.antt). The rows are demand 2's,
+-- since the tables are those of the calls' own definitions.
 use mathlib.Core.Path.{_≡_}
-use mathlib.Core.Bool.{false}
+use mathlib.Core.Bool.{Bool, false}
 use mathlib.Core.List.{List}
 use Prim.Native.Nat.{ℕ, suc, _^_, _<_}
+use lib.ListN.{getD}
 use lib.Ieee.{Float, lt}
 use Rattle.number.specs.Number.{zero⁺}
 use Rattle.number.specs.Table.{_!_, cell}
@@ -16,6 +17,7 @@ use Rattle.params.specs.declared.MsarParams.{MsarParams}
 use Rattle.params.specs.Parameters.{k, p}
 use Rattle.filter.specs.Filter.{rowCount, startShares}
 use Rattle.model.specs.Calls.{Outcome, filterCall, smoothCall}
+use Rattle.c_interface.specs.Interface.{specOf, paramsOf, Left, left}
 
 -- x is not below zero. A NaN is not below zero either
 abbrev pub NotBelow : Float → Type 0
@@ -30,9 +32,23 @@ pub record Asked (q : MsarParams) (outcome : Outcome) : Type 0 where
   pub answers : outcome .answer .check ≡ Passed
   pub shares : (s : ℕ) → s < k q → NotBelow (startShares q ! s)
 
+-- the same of a call from C: `whole` begins with the refusal number 0
+pub record AskedFromC (q : MsarParams) (o : Left) : Type 0 where
+  pub answers : getD (o .whole) 0 1 ≡ 0
+  pub shares : (s : ℕ) → s < k q → NotBelow (startShares q ! s)
+
 -- demand 3 of the table that the caller of `filter` holds afterwards, and of the filtered table of `smooth`
 pub record Demand : Type 0 where
   pub filter : (S : MsarSpec) (y : List Float) (q : MsarParams) (work filtered : List Float)
       → Asked q (filterCall S y q work filtered) → Demand3 q y (filterCall S y q work filtered .filtered)
   pub smooth : (S : MsarSpec) (y : List Float) (q : MsarParams) (work filtered smoothed : List Float)
       → Asked q (smoothCall S y q work filtered smoothed) → Demand3 q y (smoothCall S y q work filtered smoothed .filtered)
+  -- and of what `msar_filter` and `msar_smooth` leave in the caller's array `filtered`: EntryPoints.antt has the same `left ..`
+  pub msar-filter : (k order : ℕ) (ar variance : Bool) (y : List Float) (counts : List ℕ) (numbers work filtered : List Float)
+      → let q = paramsOf counts numbers in
+      let o = left (filterCall (specOf k order ar variance) y q work filtered) in
+      AskedFromC q o → Demand3 q y (o .filtered)
+  pub msar-smooth : (k order : ℕ) (ar variance : Bool) (y : List Float) (counts : List ℕ) (numbers work filtered smoothed : List Float)
+      → let q = paramsOf counts numbers in
+      let o = left (smoothCall (specOf k order ar variance) y q work filtered smoothed) in
+      AskedFromC q o → Demand3 q y (o .filtered)

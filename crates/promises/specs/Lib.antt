@@ -1,6 +1,12 @@
--- document 01's twelve proved examples
-pub mod Twelve
+-- what is promised of an entry point
+pub mod Contracts
+-- the entry points, each with the outcome that it gives: the whole promise to a caller
+pub mod EntryPoints
+-- what serves the crates above, and has one outcome
+pub mod BetweenCrates
+-- both
+pub mod OneOutcome
 -- demand 3 of the tables that the calls write
 pub mod Demand
--- that a contract determines the outcome of a call
-pub mod OneOutcome
+-- document 01's twelve proved examples
+pub mod Twelve

@@ -2,5 +2,5 @@
 pub mod Checks
 -- checks at each of n places, for a loop over them
 pub mod Each
--- number, place and value of a refusal are fixed; no two refusals say the same
-pub mod Unique
+-- no refusal has the number 0
+pub mod Numbers

@@ -2,5 +2,3 @@
 pub mod Diagonal
 -- the two ways to an answer
 pub mod Answers
--- no second outcome satisfies the contract
-pub mod Unique

@@ -1,4 +1,2 @@
 -- the series of document 01's P9
 pub mod Examples
--- no second outcome satisfies the contract
-pub mod Unique

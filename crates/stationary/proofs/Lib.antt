@@ -6,7 +6,5 @@ mod OneShare
 mod Answers
 -- how many regimes parameters that pass have
 mod Counts
--- no second outcome satisfies a contract
-pub mod Unique
 -- P4 and P6
 pub mod Examples
