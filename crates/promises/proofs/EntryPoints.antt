@@ -1,6 +1,5 @@
 -- Each entry point asks nothing and gives exactly its outcome: a line for each, in which the equation of its `ensures` is taken apart. Assumes nothing.
 use mathlib.Core.Path.{refl, ap}
-use base.Logic.{emp, id⊢}
 use Rattle.model.specs.Calls.{Outcome}
 use Rattle.fit.specs.Calls.{FitOutcome}
 use Rattle.number.proofs.pattern as number·pattern
@@ -60,65 +59,65 @@ use Rattle.c_interface.proofs.msar_log as c·log
 use Rattle.c_interface.proofs.msar_exp as c·exp
 use Rattle.c_interface.proofs.msar_lnpdf as c·lnpdf
 use Rattle.promises.specs.EntryPoints.{EntryPoints}
-use Rattle.promises.proofs.Contracts.{says, entry-point}
+use Rattle.promises.proofs.Contracts.{entry-point}
 
 pub entry-points : (M : Type 1) → EntryPoints M
 entry-points M =
     record {
-      msar-loglike = entry-point (λ 𝓤 H A mem run. record { named = λ κs a. tt; asks-nothing = λ κs a g. id⊢ 𝓤 (emp 𝓤); gives = λ κs a g r ws. says 𝓤 (λ e. (refl, λ i. (tt, (tt, (tt, (tt, (tt, (tt, (tt, (e i .work, (e i .whole, (e i .real, tt)))))))))))) }) c·loglike.Met.met;
-      msar-filter = entry-point (λ 𝓤 H A mem run. record { named = λ κs a. tt; asks-nothing = λ κs a g. id⊢ 𝓤 (emp 𝓤); gives = λ κs a g r ws. says 𝓤 (λ e. (refl, λ i. (tt, (tt, (tt, (tt, (tt, (tt, (tt, (e i .work, (e i .filtered, (e i .whole, (e i .real, tt))))))))))))) }) c·filter.Met.met;
-      msar-smooth = entry-point (λ 𝓤 H A mem run. record { named = λ κs a. tt; asks-nothing = λ κs a g. id⊢ 𝓤 (emp 𝓤); gives = λ κs a g r ws. says 𝓤 (λ e. (refl, λ i. (tt, (tt, (tt, (tt, (tt, (tt, (tt, (e i .work, (e i .filtered, (e i .smoothed, (e i .whole, (e i .real, tt)))))))))))))) }) c·smooth.Met.met;
-      msar-fit = entry-point (λ 𝓤 H A mem run. record { named = λ κs a. tt; asks-nothing = λ κs a g. id⊢ 𝓤 (emp 𝓤); gives = λ κs a g r ws. says 𝓤 (λ e. (refl, λ i. (tt, (tt, (tt, (tt, (tt, (tt, (tt, (e i .work, (e i .smoothed, (tt, (tt, (e i .fitted, (e i .whole, (e i .real, tt)))))))))))))))) }) c·fit.Met.met;
-      msar-windows = entry-point (λ 𝓤 H A mem run. record { named = λ κs a. tt; asks-nothing = λ κs a g. id⊢ 𝓤 (emp 𝓤); gives = λ κs a g r ws. says 𝓤 (λ e. (refl, λ i. (tt, (tt, (e i .whole, (e i .real, tt)))))) }) c·windows.Met.met;
-      msar-check = entry-point (λ 𝓤 H A mem run. record { named = λ κs a. tt; asks-nothing = λ κs a g. id⊢ 𝓤 (emp 𝓤); gives = λ κs a g r ws. says 𝓤 (λ e. (refl, λ i. (tt, (tt, (e i .whole, (e i .real, tt)))))) }) c·check.Met.met;
-      msar-durations = entry-point (λ 𝓤 H A mem run. record { named = λ κs a. tt; asks-nothing = λ κs a g. id⊢ 𝓤 (emp 𝓤); gives = λ κs a g r ws. says 𝓤 (λ e. (refl, λ i. (tt, (tt, (e i .values, (e i .whole, (e i .real, tt))))))) }) c·durations.Met.met;
-      msar-shares = entry-point (λ 𝓤 H A mem run. record { named = λ κs a. tt; asks-nothing = λ κs a g. id⊢ 𝓤 (emp 𝓤); gives = λ κs a g r ws. says 𝓤 (λ e. (refl, λ i. (tt, (tt, (e i .values, (e i .whole, (e i .real, tt))))))) }) c·shares.Met.met;
-      msar-matches = entry-point (λ 𝓤 H A mem run. record { named = λ κs a. tt; asks-nothing = λ κs a g. id⊢ 𝓤 (emp 𝓤); gives = λ κs a g r ws. says 𝓤 (λ e. (e, refl)) }) c·matches.Met.met;
-      loglike = entry-point (λ 𝓤 H A mem run. record { named = λ κs a. tt; asks-nothing = λ κs a g. id⊢ 𝓤 (emp 𝓤); gives = λ κs a g r ws. says 𝓤 (λ e. (ap (λ (x : Outcome). x .answer) e, λ i. (tt, (tt, (tt, (e i .work, tt)))))) }) model·loglike.Met.met;
-      filter = entry-point (λ 𝓤 H A mem run. record { named = λ κs a. tt; asks-nothing = λ κs a g. id⊢ 𝓤 (emp 𝓤); gives = λ κs a g r ws. says 𝓤 (λ e. (ap (λ (x : Outcome). x .answer) e, λ i. (tt, (tt, (tt, (e i .work, (e i .filtered, tt))))))) }) model·filter.Met.met;
-      smooth = entry-point (λ 𝓤 H A mem run. record { named = λ κs a. tt; asks-nothing = λ κs a g. id⊢ 𝓤 (emp 𝓤); gives = λ κs a g r ws. says 𝓤 (λ e. (ap (λ (x : Outcome). x .answer) e, λ i. (tt, (tt, (tt, (e i .work, (e i .filtered, (e i .smoothed, tt)))))))) }) model·smooth.Met.met;
-      fit = entry-point (λ 𝓤 H A mem run. record { named = λ κs a. tt; asks-nothing = λ κs a g. id⊢ 𝓤 (emp 𝓤); gives = λ κs a g r ws. says 𝓤 (λ e. (ap (λ (x : FitOutcome). x .answer) e, λ i. (tt, (tt, (tt, (tt, (tt, (e i .work, (e i .smoothed, tt))))))))) }) fit·fit.Met.met;
-      bind = entry-point (λ 𝓤 H A mem run. record { named = λ κs a. tt; asks-nothing = λ κs a g. id⊢ 𝓤 (emp 𝓤); gives = λ κs a g r ws. says 𝓤 (λ e. (e, refl)) }) binding·bind.Met.met;
-      admit = entry-point (λ 𝓤 H A mem run. record { named = λ κs a. tt; asks-nothing = λ κs a g. id⊢ 𝓤 (emp 𝓤); gives = λ κs a g r ws. says 𝓤 (λ e. (e, refl)) }) binding·admit.Met.met;
-      record-new = entry-point (λ 𝓤 H A mem run. record { named = λ κs a. tt; asks-nothing = λ κs a g. id⊢ 𝓤 (emp 𝓤); gives = λ κs a g r ws. says 𝓤 (λ e. (λ i. record { check = e .0 i; model = record { series = e .1 i; spec = e .2 i } }, refl)) }) markov·new.Met.met;
-      record-loglike = entry-point (λ 𝓤 H A mem run. record { named = λ κs a. tt; asks-nothing = λ κs a g. id⊢ 𝓤 (emp 𝓤); gives = λ κs a g r ws. says 𝓤 (λ e. (ap (λ (x : Outcome). x .answer) e, λ i. (tt, (tt, (e i .work, tt))))) }) markov·loglike.Met.met;
-      record-filter = entry-point (λ 𝓤 H A mem run. record { named = λ κs a. tt; asks-nothing = λ κs a g. id⊢ 𝓤 (emp 𝓤); gives = λ κs a g r ws. says 𝓤 (λ e. (ap (λ (x : Outcome). x .answer) e, λ i. (tt, (tt, (e i .work, (e i .filtered, tt)))))) }) markov·filter.Met.met;
-      record-smooth = entry-point (λ 𝓤 H A mem run. record { named = λ κs a. tt; asks-nothing = λ κs a g. id⊢ 𝓤 (emp 𝓤); gives = λ κs a g r ws. says 𝓤 (λ e. (ap (λ (x : Outcome). x .answer) e, λ i. (tt, (tt, (e i .work, (e i .filtered, (e i .smoothed, tt))))))) }) markov·smooth.Met.met;
-      record-fit = entry-point (λ 𝓤 H A mem run. record { named = λ κs a. tt; asks-nothing = λ κs a g. id⊢ 𝓤 (emp 𝓤); gives = λ κs a g r ws. says 𝓤 (λ e. (ap (λ (x : FitOutcome). x .answer) e, λ i. (tt, (tt, (tt, (tt, (e i .work, (e i .smoothed, tt)))))))) }) markov·fit.Met.met;
-      check-of = entry-point (λ 𝓤 H A mem run. record { named = λ κs a. tt; asks-nothing = λ κs a g. id⊢ 𝓤 (emp 𝓤); gives = λ κs a g r ws. says 𝓤 (λ e. (e, refl)) }) markov·check_of.Met.met;
-      loglike-of = entry-point (λ 𝓤 H A mem run. record { named = λ κs a. tt; asks-nothing = λ κs a g. id⊢ 𝓤 (emp 𝓤); gives = λ κs a g r ws. says 𝓤 (λ e. (ap (λ (x : Outcome). x .answer) e, λ i. (tt, (tt, (tt, (e i .work, tt)))))) }) markov·loglike_of.Met.met;
-      filter-of = entry-point (λ 𝓤 H A mem run. record { named = λ κs a. tt; asks-nothing = λ κs a g. id⊢ 𝓤 (emp 𝓤); gives = λ κs a g r ws. says 𝓤 (λ e. (ap (λ (x : Outcome). x .answer) e, λ i. (tt, (tt, (tt, (e i .work, (e i .filtered, tt))))))) }) markov·filter_of.Met.met;
-      smooth-of = entry-point (λ 𝓤 H A mem run. record { named = λ κs a. tt; asks-nothing = λ κs a g. id⊢ 𝓤 (emp 𝓤); gives = λ κs a g r ws. says 𝓤 (λ e. (ap (λ (x : Outcome). x .answer) e, λ i. (tt, (tt, (tt, (e i .work, (e i .filtered, (e i .smoothed, tt)))))))) }) markov·smooth_of.Met.met;
-      fit-of = entry-point (λ 𝓤 H A mem run. record { named = λ κs a. tt; asks-nothing = λ κs a g. id⊢ 𝓤 (emp 𝓤); gives = λ κs a g r ws. says 𝓤 (λ e. (ap (λ (x : FitOutcome). x .answer) e, λ i. (tt, (tt, (tt, (tt, (tt, (e i .work, (e i .smoothed, tt))))))))) }) markov·fit_of.Met.met;
-      expanded-states = entry-point (λ 𝓤 H A mem run. record { named = λ κs a. tt; asks-nothing = λ κs a g. id⊢ 𝓤 (emp 𝓤); gives = λ κs a g r ws. says 𝓤 (λ e. (e, refl)) }) spec·expanded_states.Met.met;
-      new = entry-point (λ 𝓤 H A mem run. record { named = λ κs a. tt; asks-nothing = λ κs a g. id⊢ 𝓤 (emp 𝓤); gives = λ κs a g r ws. says 𝓤 (λ e. (e, refl)) }) params·new.Met.met;
-      check = entry-point (λ 𝓤 H A mem run. record { named = λ κs a. tt; asks-nothing = λ κs a g. id⊢ 𝓤 (emp 𝓤); gives = λ κs a g r ws. says 𝓤 (λ e. (e, refl)) }) params·check.Met.met;
-      expected-durations = entry-point (λ 𝓤 H A mem run. record { named = λ κs a. tt; asks-nothing = λ κs a g. id⊢ 𝓤 (emp 𝓤); gives = λ κs a g r ws. says 𝓤 (λ e. (e, refl)) }) params·expected_durations.Met.met;
-      matches-spec = entry-point (λ 𝓤 H A mem run. record { named = λ κs a. tt; asks-nothing = λ κs a g. id⊢ 𝓤 (emp 𝓤); gives = λ κs a g r ws. says 𝓤 (λ e. (e, refl)) }) params·matches_spec.Met.met;
-      k-regimes = entry-point (λ 𝓤 H A mem run. record { named = λ κs a. tt; asks-nothing = λ κs a g. id⊢ 𝓤 (emp 𝓤); gives = λ κs a g r ws. says 𝓤 (λ e. (e, refl)) }) params·k_regimes.Met.met;
-      order = entry-point (λ 𝓤 H A mem run. record { named = λ κs a. tt; asks-nothing = λ κs a g. id⊢ 𝓤 (emp 𝓤); gives = λ κs a g r ws. says 𝓤 (λ e. (e, refl)) }) params·order.Met.met;
-      switching-ar = entry-point (λ 𝓤 H A mem run. record { named = λ κs a. tt; asks-nothing = λ κs a g. id⊢ 𝓤 (emp 𝓤); gives = λ κs a g r ws. says 𝓤 (λ e. (e, refl)) }) params·switching_ar.Met.met;
-      switching-variance = entry-point (λ 𝓤 H A mem run. record { named = λ κs a. tt; asks-nothing = λ κs a g. id⊢ 𝓤 (emp 𝓤); gives = λ κs a g r ws. says 𝓤 (λ e. (e, refl)) }) params·switching_variance.Met.met;
-      stationary-shares = entry-point (λ 𝓤 H A mem run. record { named = λ κs a. tt; asks-nothing = λ κs a g. id⊢ 𝓤 (emp 𝓤); gives = λ κs a g r ws. says 𝓤 (λ e. (e, refl)) }) stationary·stationary_shares.Met.met;
-      number = entry-point (λ 𝓤 H A mem run. record { named = λ κs a. tt; asks-nothing = λ κs a g. id⊢ 𝓤 (emp 𝓤); gives = λ κs a g r ws. says 𝓤 (λ e. (e, refl)) }) refusal·number.Met.met;
-      place = entry-point (λ 𝓤 H A mem run. record { named = λ κs a. tt; asks-nothing = λ κs a g. id⊢ 𝓤 (emp 𝓤); gives = λ κs a g r ws. says 𝓤 (λ e. (e, refl)) }) refusal·place.Met.met;
-      value = entry-point (λ 𝓤 H A mem run. record { named = λ κs a. tt; asks-nothing = λ κs a g. id⊢ 𝓤 (emp 𝓤); gives = λ κs a g r ws. says 𝓤 (λ e. (e, refl)) }) refusal·value.Met.met;
-      first-of = entry-point (λ 𝓤 H A mem run. record { named = λ κs a. tt; asks-nothing = λ κs a g. id⊢ 𝓤 (emp 𝓤); gives = λ κs a g r ws. says 𝓤 (λ e. (e, refl)) }) refusal·first_of.Met.met;
-      solve = entry-point (λ 𝓤 H A mem run. record { named = λ κs a. tt; asks-nothing = λ κs a g. id⊢ 𝓤 (emp 𝓤); gives = λ κs a g r ws. says 𝓤 (λ e. (e, refl)) }) linsolve·solve.Met.met;
-      root = entry-point (λ 𝓤 H A mem run. record { named = λ κs a. tt; asks-nothing = λ κs a g. id⊢ 𝓤 (emp 𝓤); gives = λ κs a g r ws. says 𝓤 (λ e. (e .0, refl)) }) root·root.Met.met;
-      log = entry-point (λ 𝓤 H A mem run. record { named = λ κs a. tt; asks-nothing = λ κs a g. id⊢ 𝓤 (emp 𝓤); gives = λ κs a g r ws. says 𝓤 (λ e. (e, refl)) }) log·log.Met.met;
-      exp = entry-point (λ 𝓤 H A mem run. record { named = λ κs a. tt; asks-nothing = λ κs a g. id⊢ 𝓤 (emp 𝓤); gives = λ κs a g r ws. says 𝓤 (λ e. (e, refl)) }) exp·exp.Met.met;
-      lnpdf = entry-point (λ 𝓤 H A mem run. record { named = λ κs a. tt; asks-nothing = λ κs a g. id⊢ 𝓤 (emp 𝓤); gives = λ κs a g r ws. says 𝓤 (λ e. (e, refl)) }) normal·lnpdf.Met.met;
-      msar-root = entry-point (λ 𝓤 H A mem run. record { named = λ κs a. tt; asks-nothing = λ κs a g. id⊢ 𝓤 (emp 𝓤); gives = λ κs a g r ws. says 𝓤 (λ e. (e .0, refl)) }) c·root.Met.met;
-      msar-log = entry-point (λ 𝓤 H A mem run. record { named = λ κs a. tt; asks-nothing = λ κs a g. id⊢ 𝓤 (emp 𝓤); gives = λ κs a g r ws. says 𝓤 (λ e. (e, refl)) }) c·log.Met.met;
-      msar-exp = entry-point (λ 𝓤 H A mem run. record { named = λ κs a. tt; asks-nothing = λ κs a g. id⊢ 𝓤 (emp 𝓤); gives = λ κs a g r ws. says 𝓤 (λ e. (e, refl)) }) c·exp.Met.met;
-      msar-lnpdf = entry-point (λ 𝓤 H A mem run. record { named = λ κs a. tt; asks-nothing = λ κs a g. id⊢ 𝓤 (emp 𝓤); gives = λ κs a g r ws. says 𝓤 (λ e. (e, refl)) }) c·lnpdf.Met.met;
-      pattern = entry-point (λ 𝓤 H A mem run. record { named = λ κs a. tt; asks-nothing = λ κs a g. id⊢ 𝓤 (emp 𝓤); gives = λ κs a g r ws. says 𝓤 (λ e. (e, refl)) }) number·pattern.Met.met;
-      of-pattern = entry-point (λ 𝓤 H A mem run. record { named = λ κs a. tt; asks-nothing = λ κs a g. id⊢ 𝓤 (emp 𝓤); gives = λ κs a g r ws. says 𝓤 (λ e. (e, refl)) }) number·of_pattern.Met.met;
-      magnitude = entry-point (λ 𝓤 H A mem run. record { named = λ κs a. tt; asks-nothing = λ κs a g. id⊢ 𝓤 (emp 𝓤); gives = λ κs a g r ws. says 𝓤 (λ e. (e, refl)) }) number·magnitude.Met.met;
-      is-finite = entry-point (λ 𝓤 H A mem run. record { named = λ κs a. tt; asks-nothing = λ κs a g. id⊢ 𝓤 (emp 𝓤); gives = λ κs a g r ws. says 𝓤 (λ e. (e, refl)) }) number·is_finite.Met.met;
-      is-usable = entry-point (λ 𝓤 H A mem run. record { named = λ κs a. tt; asks-nothing = λ κs a g. id⊢ 𝓤 (emp 𝓤); gives = λ κs a g r ws. says 𝓤 (λ e. (e, refl)) }) number·is_usable.Met.met;
-      max = entry-point (λ 𝓤 H A mem run. record { named = λ κs a. tt; asks-nothing = λ κs a g. id⊢ 𝓤 (emp 𝓤); gives = λ κs a g r ws. says 𝓤 (λ e. (e, refl)) }) number·max.Met.met;
-      read = entry-point (λ 𝓤 H A mem run. record { named = λ κs a. tt; asks-nothing = λ κs a g. id⊢ 𝓤 (emp 𝓤); gives = λ κs a g r ws. says 𝓤 (λ e. (e, refl)) }) decimal·read.Met.met;
-      write = entry-point (λ 𝓤 H A mem run. record { named = λ κs a. tt; asks-nothing = λ κs a g. id⊢ 𝓤 (emp 𝓤); gives = λ κs a g r ws. says 𝓤 (λ e. (e, refl)) }) decimal·write.Met.met;
+      msar-loglike = entry-point (λ κs a r ws e. (refl, λ i. (tt, (tt, (tt, (tt, (tt, (tt, (tt, (e i .work, (e i .whole, (e i .real, tt)))))))))))) c·loglike.Met.met;
+      msar-filter = entry-point (λ κs a r ws e. (refl, λ i. (tt, (tt, (tt, (tt, (tt, (tt, (tt, (e i .work, (e i .filtered, (e i .whole, (e i .real, tt))))))))))))) c·filter.Met.met;
+      msar-smooth = entry-point (λ κs a r ws e. (refl, λ i. (tt, (tt, (tt, (tt, (tt, (tt, (tt, (e i .work, (e i .filtered, (e i .smoothed, (e i .whole, (e i .real, tt)))))))))))))) c·smooth.Met.met;
+      msar-fit = entry-point (λ κs a r ws e. (refl, λ i. (tt, (tt, (tt, (tt, (tt, (tt, (tt, (e i .work, (e i .smoothed, (tt, (tt, (e i .fitted, (e i .whole, (e i .real, tt)))))))))))))))) c·fit.Met.met;
+      msar-windows = entry-point (λ κs a r ws e. (refl, λ i. (tt, (tt, (e i .whole, (e i .real, tt)))))) c·windows.Met.met;
+      msar-check = entry-point (λ κs a r ws e. (refl, λ i. (tt, (tt, (e i .whole, (e i .real, tt)))))) c·check.Met.met;
+      msar-durations = entry-point (λ κs a r ws e. (refl, λ i. (tt, (tt, (e i .values, (e i .whole, (e i .real, tt))))))) c·durations.Met.met;
+      msar-shares = entry-point (λ κs a r ws e. (refl, λ i. (tt, (tt, (e i .values, (e i .whole, (e i .real, tt))))))) c·shares.Met.met;
+      msar-matches = entry-point (λ κs a r ws e. (e, refl)) c·matches.Met.met;
+      loglike = entry-point (λ κs a r ws e. (ap (λ (x : Outcome). x .answer) e, λ i. (tt, (tt, (tt, (e i .work, tt)))))) model·loglike.Met.met;
+      filter = entry-point (λ κs a r ws e. (ap (λ (x : Outcome). x .answer) e, λ i. (tt, (tt, (tt, (e i .work, (e i .filtered, tt))))))) model·filter.Met.met;
+      smooth = entry-point (λ κs a r ws e. (ap (λ (x : Outcome). x .answer) e, λ i. (tt, (tt, (tt, (e i .work, (e i .filtered, (e i .smoothed, tt)))))))) model·smooth.Met.met;
+      fit = entry-point (λ κs a r ws e. (ap (λ (x : FitOutcome). x .answer) e, λ i. (tt, (tt, (tt, (tt, (tt, (e i .work, (e i .smoothed, tt))))))))) fit·fit.Met.met;
+      bind = entry-point (λ κs a r ws e. (e, refl)) binding·bind.Met.met;
+      admit = entry-point (λ κs a r ws e. (e, refl)) binding·admit.Met.met;
+      record-new = entry-point (λ κs a r ws e. (λ i. record { check = e .0 i; model = record { series = e .1 i; spec = e .2 i } }, refl)) markov·new.Met.met;
+      record-loglike = entry-point (λ κs a r ws e. (ap (λ (x : Outcome). x .answer) e, λ i. (tt, (tt, (e i .work, tt))))) markov·loglike.Met.met;
+      record-filter = entry-point (λ κs a r ws e. (ap (λ (x : Outcome). x .answer) e, λ i. (tt, (tt, (e i .work, (e i .filtered, tt)))))) markov·filter.Met.met;
+      record-smooth = entry-point (λ κs a r ws e. (ap (λ (x : Outcome). x .answer) e, λ i. (tt, (tt, (e i .work, (e i .filtered, (e i .smoothed, tt))))))) markov·smooth.Met.met;
+      record-fit = entry-point (λ κs a r ws e. (ap (λ (x : FitOutcome). x .answer) e, λ i. (tt, (tt, (tt, (tt, (e i .work, (e i .smoothed, tt)))))))) markov·fit.Met.met;
+      check-of = entry-point (λ κs a r ws e. (e, refl)) markov·check_of.Met.met;
+      loglike-of = entry-point (λ κs a r ws e. (ap (λ (x : Outcome). x .answer) e, λ i. (tt, (tt, (tt, (e i .work, tt)))))) markov·loglike_of.Met.met;
+      filter-of = entry-point (λ κs a r ws e. (ap (λ (x : Outcome). x .answer) e, λ i. (tt, (tt, (tt, (e i .work, (e i .filtered, tt))))))) markov·filter_of.Met.met;
+      smooth-of = entry-point (λ κs a r ws e. (ap (λ (x : Outcome). x .answer) e, λ i. (tt, (tt, (tt, (e i .work, (e i .filtered, (e i .smoothed, tt)))))))) markov·smooth_of.Met.met;
+      fit-of = entry-point (λ κs a r ws e. (ap (λ (x : FitOutcome). x .answer) e, λ i. (tt, (tt, (tt, (tt, (tt, (e i .work, (e i .smoothed, tt))))))))) markov·fit_of.Met.met;
+      expanded-states = entry-point (λ κs a r ws e. (e, refl)) spec·expanded_states.Met.met;
+      new = entry-point (λ κs a r ws e. (e, refl)) params·new.Met.met;
+      check = entry-point (λ κs a r ws e. (e, refl)) params·check.Met.met;
+      expected-durations = entry-point (λ κs a r ws e. (e, refl)) params·expected_durations.Met.met;
+      matches-spec = entry-point (λ κs a r ws e. (e, refl)) params·matches_spec.Met.met;
+      k-regimes = entry-point (λ κs a r ws e. (e, refl)) params·k_regimes.Met.met;
+      order = entry-point (λ κs a r ws e. (e, refl)) params·order.Met.met;
+      switching-ar = entry-point (λ κs a r ws e. (e, refl)) params·switching_ar.Met.met;
+      switching-variance = entry-point (λ κs a r ws e. (e, refl)) params·switching_variance.Met.met;
+      stationary-shares = entry-point (λ κs a r ws e. (e, refl)) stationary·stationary_shares.Met.met;
+      number = entry-point (λ κs a r ws e. (e, refl)) refusal·number.Met.met;
+      place = entry-point (λ κs a r ws e. (e, refl)) refusal·place.Met.met;
+      value = entry-point (λ κs a r ws e. (e, refl)) refusal·value.Met.met;
+      first-of = entry-point (λ κs a r ws e. (e, refl)) refusal·first_of.Met.met;
+      solve = entry-point (λ κs a r ws e. (e, refl)) linsolve·solve.Met.met;
+      root = entry-point (λ κs a r ws e. (e .0, refl)) root·root.Met.met;
+      log = entry-point (λ κs a r ws e. (e, refl)) log·log.Met.met;
+      exp = entry-point (λ κs a r ws e. (e, refl)) exp·exp.Met.met;
+      lnpdf = entry-point (λ κs a r ws e. (e, refl)) normal·lnpdf.Met.met;
+      msar-root = entry-point (λ κs a r ws e. (e .0, refl)) c·root.Met.met;
+      msar-log = entry-point (λ κs a r ws e. (e, refl)) c·log.Met.met;
+      msar-exp = entry-point (λ κs a r ws e. (e, refl)) c·exp.Met.met;
+      msar-lnpdf = entry-point (λ κs a r ws e. (e, refl)) c·lnpdf.Met.met;
+      pattern = entry-point (λ κs a r ws e. (e, refl)) number·pattern.Met.met;
+      of-pattern = entry-point (λ κs a r ws e. (e, refl)) number·of_pattern.Met.met;
+      magnitude = entry-point (λ κs a r ws e. (e, refl)) number·magnitude.Met.met;
+      is-finite = entry-point (λ κs a r ws e. (e, refl)) number·is_finite.Met.met;
+      is-usable = entry-point (λ κs a r ws e. (e, refl)) number·is_usable.Met.met;
+      max = entry-point (λ κs a r ws e. (e, refl)) number·max.Met.met;
+      read = entry-point (λ κs a r ws e. (e, refl)) decimal·read.Met.met;
+      write = entry-point (λ κs a r ws e. (e, refl)) decimal·write.Met.met;
     }

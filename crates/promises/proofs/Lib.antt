@@ -21,3 +21,5 @@ pub mod Contracts
 pub mod EntryPoints
 -- both lists
 pub mod OneOutcome
+-- ---- the theorems about the definitions
+pub mod Meanings

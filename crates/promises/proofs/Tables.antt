@@ -47,7 +47,7 @@ module _ (S : MsarSpec) (y : List Float) (q : MsarParams) (work : ℕ) (tables :
   unfolding admitted
   shape = is-admitted S y q work tables refl (ap (λ (c : Check). boundAfter c S y .check) passed) .shape
 
-  parameters : parameterCheck q ≡ Passed
+  pub parameters : parameterCheck q ≡ Passed
   unfolding admittedCheck paramsCheck
   parameters =
       let c₁ = both (boundCheck S y) passed in

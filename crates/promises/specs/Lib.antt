@@ -8,5 +8,7 @@ pub mod BetweenCrates
 pub mod OneOutcome
 -- demand 3 of the tables that the calls write
 pub mod Demand
+-- what is proved of the definitions themselves
+pub mod Meanings
 -- document 01's twelve proved examples
 pub mod Twelve
