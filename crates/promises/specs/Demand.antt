@@ -27,15 +27,19 @@ NotBelow x = lt x zero⁺ ≡ false
 abbrev pub Demand3 : MsarParams → List Float → List Float → Type 0
 Demand3 q y table = (i : ℕ) → i < rowCount q y → NearOne (k q) (k q ^ suc (p q)) (cell (k q) table i)
 
--- what demand 3 asks first: the call answers, and no share that the filter starts from is below zero
+-- no share that the filter starts from is below zero
+abbrev pub SharesNotBelow : MsarParams → Type 0
+SharesNotBelow q = (s : ℕ) → s < k q → NotBelow (startShares q ! s)
+
+-- what demand 3 asks first: the call answers, and no such share is below zero
 pub record Asked (q : MsarParams) (outcome : Outcome) : Type 0 where
   pub answers : outcome .answer .check ≡ Passed
-  pub shares : (s : ℕ) → s < k q → NotBelow (startShares q ! s)
+  pub shares : SharesNotBelow q
 
 -- the same of a call from C: `whole` begins with the refusal number 0
 pub record AskedFromC (q : MsarParams) (o : Left) : Type 0 where
   pub answers : getD (o .whole) 0 1 ≡ 0
-  pub shares : (s : ℕ) → s < k q → NotBelow (startShares q ! s)
+  pub shares : SharesNotBelow q
 
 -- demand 3 of the table that the caller of `filter` holds afterwards, and of the filtered table of `smooth`
 pub record Demand : Type 0 where
