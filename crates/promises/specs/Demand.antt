@@ -36,7 +36,7 @@ pub record Asked (q : MsarParams) (outcome : Outcome) : Type 0 where
   pub answers : outcome .answer .check ≡ Passed
   pub shares : SharesNotBelow q
 
--- the same of a call from C: `whole` begins with the refusal number 0
+-- the same of a call from C: place 0 of `whole` is the refusal number 0 (1 stands for a place that isn't there)
 pub record AskedFromC (q : MsarParams) (o : Left) : Type 0 where
   pub answers : getD (o .whole) 0 1 ≡ 0
   pub shares : SharesNotBelow q

@@ -1,9 +1,12 @@
--- The whole promise to a caller: for each entry point of the library (what C, a program or the record calls) the outcome that it gives, by the
--- definitions, and that it asks nothing, gives exactly that, and has no second outcome (`EntryPoint`, Contracts.antt). A list for each layer, and
--- `EntryPoints` has them all. After document 01, "How much a contract says", and include/msar.h. What isn't here is in BetweenCrates.antt or
--- in docs/CONTRACTS.md, "Exceptions".
+-- The whole promise to a caller: for each entry point of the library (what C and the record call, and what a program is meant to call) its type, the
+-- outcome that it gives, by the definitions, and, in `EntryPoints`, that it asks nothing, gives exactly that, and has no second outcome
+-- (`EntryPoint`, Contracts.antt). After document 01, "How much a contract says", and include/msar.h. What isn't here is in BetweenCrates.antt or in
+-- docs/CONTRACTS.md, "Exceptions".
+use mathlib.Core.List.{[], _∷_}
 use lib.Ieee.Scale.{finite}
+use denote.Builtin.{bool, f64, u64, unit, usize}
 use denote.Ref.{now}
+use denote.Triple.Clauses.{Ended}
 use Rattle.number.specs.Number.{zero⁺, patternOf, float, magnitudeOf, usable, maxOf}
 use Rattle.root.specs.Root.{rootOf}
 use Rattle.log.specs.Log.{logOf}
@@ -81,275 +84,421 @@ use Rattle.c_interface.proofs.msar_log as c·log
 use Rattle.c_interface.proofs.msar_exp as c·exp
 use Rattle.c_interface.proofs.msar_lnpdf as c·lnpdf
 use Rattle.promises.specs.Contracts.{OutcomeOf, EntryPoint}
+use Rattle.promises.specs.Types.{fn, value, table, reals, realsMut, bytes, realArray, realArrayMut, wholeArray, wholeArrayMut, model, made, Check, Refusal, MsarSpec, Windows, Solution, MsarParams, Built, Durations, Shares, Bound, Tables, Answer, Fitted, Parsed, Written}
 
--- Below, a function's arguments are a tuple in the order of its parameters, and `now x` is what a reference x refers to at entry. An outcome is the
--- result beside a tuple of the same order: what each parameter that is lent by `&mut` holds at exit, `tt` for every other.
+-- Below, `fn n parameters result` is a function's type (Types.antt), with the references numbered from 0. Its arguments are a tuple in the order of its
+-- parameters, and `now x` is what a reference x refers to at entry. An outcome is the result beside a tuple of the same order: what each parameter
+-- that is lent by `&mut` holds at exit, `tt` for every other.
 
 -- ---- what C calls, on a series: seven parameters describe spec, series and parameters, and `whole` and `real` take the answer
 
-abbrev pub msarLoglikeOutcome : OutcomeOf c·loglike.ended
+abbrev pub msarLoglikeType : Ended
+msarLoglikeType = fn 6 (value usize ∷ value usize ∷ value bool ∷ value bool ∷ reals 0 tt ∷ wholeArray 1 tt 6 ∷ realArray 2 tt 400 ∷ realsMut 3 tt ∷ wholeArrayMut 4 tt 4 ∷ realArrayMut 5 tt 2 ∷ []) (value unit)
+
+abbrev pub msarLoglikeOutcome : OutcomeOf msarLoglikeType
 msarLoglikeOutcome κs (k, (order, (ar, (variance, (series, (counts, (numbers, (work, _)))))))) =
     let o = left (loglikeCall (specOf k order ar variance) (now series) (paramsOf (now counts) (now numbers)) (now work)) in
     (tt, (tt, (tt, (tt, (tt, (tt, (tt, (tt, (o .work, (o .whole, (o .real, tt)))))))))))
 
-abbrev pub msarFilterOutcome : OutcomeOf c·filter.ended
+abbrev pub msarFilterType : Ended
+msarFilterType = fn 7 (value usize ∷ value usize ∷ value bool ∷ value bool ∷ reals 0 tt ∷ wholeArray 1 tt 6 ∷ realArray 2 tt 400 ∷ realsMut 3 tt ∷ realsMut 4 tt ∷ wholeArrayMut 5 tt 4 ∷ realArrayMut 6 tt 2 ∷ []) (value unit)
+
+abbrev pub msarFilterOutcome : OutcomeOf msarFilterType
 msarFilterOutcome κs (k, (order, (ar, (variance, (series, (counts, (numbers, (work, (filtered, _))))))))) =
     let o = left (filterCall (specOf k order ar variance) (now series) (paramsOf (now counts) (now numbers)) (now work) (now filtered)) in
     (tt, (tt, (tt, (tt, (tt, (tt, (tt, (tt, (o .work, (o .filtered, (o .whole, (o .real, tt))))))))))))
 
-abbrev pub msarSmoothOutcome : OutcomeOf c·smooth.ended
+abbrev pub msarSmoothType : Ended
+msarSmoothType = fn 8 (value usize ∷ value usize ∷ value bool ∷ value bool ∷ reals 0 tt ∷ wholeArray 1 tt 6 ∷ realArray 2 tt 400 ∷ realsMut 3 tt ∷ realsMut 4 tt ∷ realsMut 5 tt ∷ wholeArrayMut 6 tt 4 ∷ realArrayMut 7 tt 2 ∷ []) (value unit)
+
+abbrev pub msarSmoothOutcome : OutcomeOf msarSmoothType
 msarSmoothOutcome κs (k, (order, (ar, (variance, (series, (counts, (numbers, (work, (filtered, (smoothed, _)))))))))) =
     let o = left (smoothCall (specOf k order ar variance) (now series) (paramsOf (now counts) (now numbers)) (now work) (now filtered) (now smoothed)) in
     (tt, (tt, (tt, (tt, (tt, (tt, (tt, (tt, (o .work, (o .filtered, (o .smoothed, (o .whole, (o .real, tt)))))))))))))
 
-abbrev pub msarFitOutcome : OutcomeOf c·fit.ended
+abbrev pub msarFitType : Ended
+msarFitType = fn 8 (value usize ∷ value usize ∷ value bool ∷ value bool ∷ reals 0 tt ∷ wholeArray 1 tt 6 ∷ realArray 2 tt 400 ∷ realsMut 3 tt ∷ realsMut 4 tt ∷ value usize ∷ value f64 ∷ realArrayMut 5 tt 400 ∷ wholeArrayMut 6 tt 4 ∷ realArrayMut 7 tt 2 ∷ []) (value unit)
+
+abbrev pub msarFitOutcome : OutcomeOf msarFitType
 msarFitOutcome κs (k, (order, (ar, (variance, (series, (counts, (numbers, (work, (smoothed, (maxIter, (tol, (fitted, _)))))))))))) =
     let o = fitLeft (fitCall (specOf k order ar variance) (now series) (paramsOf (now counts) (now numbers)) maxIter tol (now work) (now smoothed)) (now fitted) in
     (tt, (tt, (tt, (tt, (tt, (tt, (tt, (tt, (o .work, (o .smoothed, (tt, (tt, (o .fitted, (o .whole, (o .real, tt)))))))))))))))
 
 -- ---- what C calls, on a spec or on parameters alone
 
-abbrev pub msarWindowsOutcome : OutcomeOf c·windows.ended
+abbrev pub msarWindowsType : Ended
+msarWindowsType = fn 2 (value usize ∷ value usize ∷ wholeArrayMut 0 tt 4 ∷ realArrayMut 1 tt 2 ∷ []) (value unit)
+
+abbrev pub msarWindowsOutcome : OutcomeOf msarWindowsType
 msarWindowsOutcome κs (k, (order, _)) =
     let o = windowsSpelled (windowCount k order) in
     (tt, (tt, (tt, (o .whole, (o .real, tt)))))
 
-abbrev pub msarCheckOutcome : OutcomeOf c·check.ended
+abbrev pub msarCheckType : Ended
+msarCheckType = fn 4 (wholeArray 0 tt 6 ∷ realArray 1 tt 400 ∷ wholeArrayMut 2 tt 4 ∷ realArrayMut 3 tt 2 ∷ []) (value unit)
+
+abbrev pub msarCheckOutcome : OutcomeOf msarCheckType
 msarCheckOutcome κs (counts, (numbers, _)) =
     let o = spelled (parameterCheck (paramsOf (now counts) (now numbers))) 0 zero⁺ in
     (tt, (tt, (tt, (o .whole, (o .real, tt)))))
 
-abbrev pub msarDurationsOutcome : OutcomeOf c·durations.ended
+abbrev pub msarDurationsType : Ended
+msarDurationsType = fn 5 (wholeArray 0 tt 6 ∷ realArray 1 tt 400 ∷ realArrayMut 2 tt 16 ∷ wholeArrayMut 3 tt 4 ∷ realArrayMut 4 tt 2 ∷ []) (value unit)
+
+abbrev pub msarDurationsOutcome : OutcomeOf msarDurationsType
 msarDurationsOutcome κs (counts, (numbers, (durations, _))) =
     let o = durationsListed (durationsOf (paramsOf (now counts) (now numbers))) (now durations) in
     (tt, (tt, (tt, (o .values, (o .whole, (o .real, tt))))))
 
-abbrev pub msarSharesOutcome : OutcomeOf c·shares.ended
+abbrev pub msarSharesType : Ended
+msarSharesType = fn 5 (wholeArray 0 tt 6 ∷ realArray 1 tt 400 ∷ realArrayMut 2 tt 16 ∷ wholeArrayMut 3 tt 4 ∷ realArrayMut 4 tt 2 ∷ []) (value unit)
+
+abbrev pub msarSharesOutcome : OutcomeOf msarSharesType
 msarSharesOutcome κs (counts, (numbers, (shares, _))) =
     let o = sharesListed (sharesOf (paramsOf (now counts) (now numbers))) (now shares) in
     (tt, (tt, (tt, (o .values, (o .whole, (o .real, tt))))))
 
-abbrev pub msarMatchesOutcome : OutcomeOf c·matches.ended
+abbrev pub msarMatchesType : Ended
+msarMatchesType = fn 2 (value usize ∷ value usize ∷ value bool ∷ value bool ∷ wholeArray 0 tt 6 ∷ realArray 1 tt 400 ∷ []) (value bool)
+
+abbrev pub msarMatchesOutcome : OutcomeOf msarMatchesType
 msarMatchesOutcome κs (k, (order, (ar, (variance, (counts, (numbers, _)))))) = (matchesSpec (specOf k order ar variance) (paramsOf (now counts) (now numbers)), (tt, (tt, (tt, (tt, (tt, (tt, tt)))))))
 
 -- ---- the calls on a series: answer, work memory, tables
 
-abbrev pub loglikeOutcome : OutcomeOf model·loglike.ended
+abbrev pub loglikeType : Ended
+loglikeType = fn 2 (value MsarSpec ∷ reals 0 tt ∷ value MsarParams ∷ realsMut 1 tt ∷ []) (value Answer)
+
+abbrev pub loglikeOutcome : OutcomeOf loglikeType
 loglikeOutcome κs (s, (series, (q, (work, _)))) =
     let o = loglikeCall s (now series) q (now work) in
     (o .answer, (tt, (tt, (tt, (o .work, tt)))))
 
-abbrev pub filterOutcome : OutcomeOf model·filter.ended
+abbrev pub filterType : Ended
+filterType = fn 3 (value MsarSpec ∷ reals 0 tt ∷ value MsarParams ∷ realsMut 1 tt ∷ realsMut 2 tt ∷ []) (value Answer)
+
+abbrev pub filterOutcome : OutcomeOf filterType
 filterOutcome κs (s, (series, (q, (work, (filtered, _))))) =
     let o = filterCall s (now series) q (now work) (now filtered) in
     (o .answer, (tt, (tt, (tt, (o .work, (o .filtered, tt))))))
 
-abbrev pub smoothOutcome : OutcomeOf model·smooth.ended
+abbrev pub smoothType : Ended
+smoothType = fn 4 (value MsarSpec ∷ reals 0 tt ∷ value MsarParams ∷ realsMut 1 tt ∷ realsMut 2 tt ∷ realsMut 3 tt ∷ []) (value Answer)
+
+abbrev pub smoothOutcome : OutcomeOf smoothType
 smoothOutcome κs (s, (series, (q, (work, (filtered, (smoothed, _)))))) =
     let o = smoothCall s (now series) q (now work) (now filtered) (now smoothed) in
     (o .answer, (tt, (tt, (tt, (o .work, (o .filtered, (o .smoothed, tt)))))))
 
-abbrev pub fitOutcome : OutcomeOf fit·fit.ended
+abbrev pub fitType : Ended
+fitType = fn 3 (value MsarSpec ∷ reals 0 tt ∷ value MsarParams ∷ value usize ∷ value f64 ∷ realsMut 1 tt ∷ realsMut 2 tt ∷ []) (value Fitted)
+
+abbrev pub fitOutcome : OutcomeOf fitType
 fitOutcome κs (s, (series, (start, (maxIter, (tol, (work, (smoothed, _))))))) =
     let o = fitCall s (now series) start maxIter tol (now work) (now smoothed) in
     (o .answer, (tt, (tt, (tt, (tt, (tt, (o .work, (o .smoothed, tt))))))))
 
 -- ---- the checks of what a call is handed: 1 to 6 with the counts, and all of them
 
-abbrev pub bindOutcome : OutcomeOf binding·bind.ended
+abbrev pub bindType : Ended
+bindType = fn 1 (value MsarSpec ∷ reals 0 tt ∷ []) (value Bound)
+
+abbrev pub bindOutcome : OutcomeOf bindType
 bindOutcome κs (s, (series, _)) = (boundOf s (now series), (tt, (tt, tt)))
 
-abbrev pub admitOutcome : OutcomeOf binding·admit.ended
+abbrev pub admitType : Ended
+admitType = fn 1 (value MsarSpec ∷ reals 0 tt ∷ value MsarParams ∷ value usize ∷ value Tables ∷ []) (value Bound)
+
+abbrev pub admitOutcome : OutcomeOf admitType
 admitOutcome κs (s, (series, (q, (work, (tables, _))))) = (admitted s (now series) q work tables, (tt, (tt, (tt, (tt, (tt, tt))))))
 
 -- ---- the record: `new` keeps the very series and spec, and each method is the plain call on them
 
-abbrev pub recordNewOutcome : OutcomeOf markov·new.ended
+abbrev pub recordNewType : Ended
+recordNewType = fn 1 (reals 0 tt ∷ value MsarSpec ∷ []) (made 0 tt)
+
+abbrev pub recordNewOutcome : OutcomeOf recordNewType
 recordNewOutcome κs (series, (s, _)) = (record { check = boundCheck s (now series); model = record { series = series; spec = s } }, (tt, (tt, tt)))
 
-abbrev pub recordLoglikeOutcome : OutcomeOf markov·loglike.ended
+abbrev pub recordLoglikeType : Ended
+recordLoglikeType = fn 2 (model 0 tt ∷ value MsarParams ∷ realsMut 1 tt ∷ []) (value Answer)
+
+abbrev pub recordLoglikeOutcome : OutcomeOf recordLoglikeType
 recordLoglikeOutcome κs (self, (q, (work, _))) =
     let o = loglikeCall (self .spec) (now (self .series)) q (now work) in
     (o .answer, (tt, (tt, (o .work, tt))))
 
-abbrev pub recordFilterOutcome : OutcomeOf markov·filter.ended
+abbrev pub recordFilterType : Ended
+recordFilterType = fn 3 (model 0 tt ∷ value MsarParams ∷ realsMut 1 tt ∷ realsMut 2 tt ∷ []) (value Answer)
+
+abbrev pub recordFilterOutcome : OutcomeOf recordFilterType
 recordFilterOutcome κs (self, (q, (work, (filtered, _)))) =
     let o = filterCall (self .spec) (now (self .series)) q (now work) (now filtered) in
     (o .answer, (tt, (tt, (o .work, (o .filtered, tt)))))
 
-abbrev pub recordSmoothOutcome : OutcomeOf markov·smooth.ended
+abbrev pub recordSmoothType : Ended
+recordSmoothType = fn 4 (model 0 tt ∷ value MsarParams ∷ realsMut 1 tt ∷ realsMut 2 tt ∷ realsMut 3 tt ∷ []) (value Answer)
+
+abbrev pub recordSmoothOutcome : OutcomeOf recordSmoothType
 recordSmoothOutcome κs (self, (q, (work, (filtered, (smoothed, _))))) =
     let o = smoothCall (self .spec) (now (self .series)) q (now work) (now filtered) (now smoothed) in
     (o .answer, (tt, (tt, (o .work, (o .filtered, (o .smoothed, tt))))))
 
-abbrev pub recordFitOutcome : OutcomeOf markov·fit.ended
+abbrev pub recordFitType : Ended
+recordFitType = fn 3 (model 0 tt ∷ value MsarParams ∷ value usize ∷ value f64 ∷ realsMut 1 tt ∷ realsMut 2 tt ∷ []) (value Fitted)
+
+abbrev pub recordFitOutcome : OutcomeOf recordFitType
 recordFitOutcome κs (self, (start, (maxIter, (tol, (work, (smoothed, _)))))) =
     let o = fitCall (self .spec) (now (self .series)) start maxIter tol (now work) (now smoothed) in
     (o .answer, (tt, (tt, (tt, (tt, (o .work, (o .smoothed, tt)))))))
 
 -- ---- the record made and used once: the check of `new`, and the plain calls
 
-abbrev pub checkOfOutcome : OutcomeOf markov·check_of.ended
+abbrev pub checkOfType : Ended
+checkOfType = fn 1 (value MsarSpec ∷ reals 0 tt ∷ []) (value Check)
+
+abbrev pub checkOfOutcome : OutcomeOf checkOfType
 checkOfOutcome κs (s, (series, _)) = (boundCheck s (now series), (tt, (tt, tt)))
 
 -- ---- the spec, the parameters, the stationary shares
 
-abbrev pub expandedStatesOutcome : OutcomeOf spec·expanded_states.ended
+abbrev pub expandedStatesType : Ended
+expandedStatesType = fn 0 (value MsarSpec ∷ []) (value Windows)
+
+abbrev pub expandedStatesOutcome : OutcomeOf expandedStatesType
 expandedStatesOutcome κs (s, _) = (windowCount (s .«k_regimes») (s .order), (tt, tt))
 
-abbrev pub newOutcome : OutcomeOf params·new.ended
+abbrev pub newType : Ended
+newType = fn 0 (value MsarParams ∷ []) (value Built)
+
+abbrev pub newOutcome : OutcomeOf newType
 newOutcome κs (q, _) = (builtOf q, (tt, tt))
 
-abbrev pub checkOutcome : OutcomeOf params·check.ended
+abbrev pub checkType : Ended
+checkType = fn 0 (value MsarParams ∷ []) (value Check)
+
+abbrev pub checkOutcome : OutcomeOf checkType
 checkOutcome κs (q, _) = (parameterCheck q, (tt, tt))
 
-abbrev pub expectedDurationsOutcome : OutcomeOf params·expected_durations.ended
+abbrev pub expectedDurationsType : Ended
+expectedDurationsType = fn 0 (value MsarParams ∷ []) (value Durations)
+
+abbrev pub expectedDurationsOutcome : OutcomeOf expectedDurationsType
 expectedDurationsOutcome κs (q, _) = (durationsOf q, (tt, tt))
 
-abbrev pub matchesSpecOutcome : OutcomeOf params·matches_spec.ended
+abbrev pub matchesSpecType : Ended
+matchesSpecType = fn 0 (value MsarParams ∷ value MsarSpec ∷ []) (value bool)
+
+abbrev pub matchesSpecOutcome : OutcomeOf matchesSpecType
 matchesSpecOutcome κs (q, (s, _)) = (matchesSpec s q, (tt, (tt, tt)))
 
-abbrev pub kRegimesOutcome : OutcomeOf params·k_regimes.ended
+abbrev pub kRegimesType : Ended
+kRegimesType = fn 0 (value MsarParams ∷ []) (value usize)
+
+abbrev pub kRegimesOutcome : OutcomeOf kRegimesType
 kRegimesOutcome κs (q, _) = (k q, (tt, tt))
 
-abbrev pub orderOutcome : OutcomeOf params·order.ended
+abbrev pub orderType : Ended
+orderType = fn 0 (value MsarParams ∷ []) (value usize)
+
+abbrev pub orderOutcome : OutcomeOf orderType
 orderOutcome κs (q, _) = (p q, (tt, tt))
 
-abbrev pub switchingArOutcome : OutcomeOf params·switching_ar.ended
+abbrev pub switchingArType : Ended
+switchingArType = fn 0 (value MsarParams ∷ []) (value bool)
+
+abbrev pub switchingArOutcome : OutcomeOf switchingArType
 switchingArOutcome κs (q, _) = (switches (q .«ar_blocks»), (tt, tt))
 
-abbrev pub switchingVarianceOutcome : OutcomeOf params·switching_variance.ended
+abbrev pub switchingVarianceType : Ended
+switchingVarianceType = fn 0 (value MsarParams ∷ []) (value bool)
+
+abbrev pub switchingVarianceOutcome : OutcomeOf switchingVarianceType
 switchingVarianceOutcome κs (q, _) = (switches (q .«variances_count»), (tt, tt))
 
-abbrev pub stationarySharesOutcome : OutcomeOf stationary·stationary_shares.ended
+abbrev pub stationarySharesType : Ended
+stationarySharesType = fn 0 (value MsarParams ∷ []) (value Shares)
+
+abbrev pub stationarySharesOutcome : OutcomeOf stationarySharesType
 stationarySharesOutcome κs (q, _) = (sharesOf q, (tt, tt))
 
 -- ---- refusals: what document 01's table says of each, and the first of two checks
 
-abbrev pub numberOutcome : OutcomeOf refusal·number.ended
+abbrev pub numberType : Ended
+numberType = fn 0 (value Refusal ∷ []) (value usize)
+
+abbrev pub numberOutcome : OutcomeOf numberType
 numberOutcome κs (r, _) = (said r .number, (tt, tt))
 
-abbrev pub placeOutcome : OutcomeOf refusal·place.ended
+abbrev pub placeType : Ended
+placeType = fn 0 (value Refusal ∷ []) (value usize)
+
+abbrev pub placeOutcome : OutcomeOf placeType
 placeOutcome κs (r, _) = (said r .place, (tt, tt))
 
-abbrev pub valueOutcome : OutcomeOf refusal·value.ended
+abbrev pub valueType : Ended
+valueType = fn 0 (value Refusal ∷ []) (value f64)
+
+abbrev pub valueOutcome : OutcomeOf valueType
 valueOutcome κs (r, _) = (said r .value, (tt, tt))
 
-abbrev pub firstOfOutcome : OutcomeOf refusal·first_of.ended
+abbrev pub firstOfType : Ended
+firstOfType = fn 0 (value Check ∷ value Check ∷ []) (value Check)
+
+abbrev pub firstOfOutcome : OutcomeOf firstOfType
 firstOfOutcome κs (first, (second, _)) = (first before second, (tt, (tt, tt)))
 
 -- ---- the solver, and elementary functions, here and from C
 
-abbrev pub solveOutcome : OutcomeOf linsolve·solve.ended
+abbrev pub solveType : Ended
+solveType = fn 0 (table 256 ∷ table 16 ∷ value usize ∷ []) (value Solution)
+
+abbrev pub solveOutcome : OutcomeOf solveType
 solveOutcome κs (a, (b, (n, _))) = (solveOf n a b, (tt, (tt, (tt, tt))))
 
-abbrev pub rootOutcome : OutcomeOf root·root.ended
+abbrev pub rootType : Ended
+rootType = fn 0 (value f64 ∷ []) (value f64)
+
+abbrev pub rootOutcome : OutcomeOf rootType
 rootOutcome κs (x, _) = (rootOf x, (tt, tt))
 
-abbrev pub logOutcome : OutcomeOf log·log.ended
+abbrev pub logType : Ended
+logType = fn 0 (value f64 ∷ []) (value f64)
+
+abbrev pub logOutcome : OutcomeOf logType
 logOutcome κs (x, _) = (logOf x, (tt, tt))
 
-abbrev pub expOutcome : OutcomeOf exp·exp.ended
+abbrev pub expType : Ended
+expType = fn 0 (value f64 ∷ []) (value f64)
+
+abbrev pub expOutcome : OutcomeOf expType
 expOutcome κs (x, _) = (expOf x, (tt, tt))
 
-abbrev pub lnpdfOutcome : OutcomeOf normal·lnpdf.ended
+abbrev pub lnpdfType : Ended
+lnpdfType = fn 0 (value f64 ∷ []) (value f64)
+
+abbrev pub lnpdfOutcome : OutcomeOf lnpdfType
 lnpdfOutcome κs (z, _) = (lnpdfOf z, (tt, tt))
 
 -- ---- numbers: bit patterns, magnitude, is finite, finite and above zero, the larger
 
-abbrev pub patternOutcome : OutcomeOf number·pattern.ended
+abbrev pub patternType : Ended
+patternType = fn 0 (value f64 ∷ []) (value u64)
+
+abbrev pub patternOutcome : OutcomeOf patternType
 patternOutcome κs (x, _) = (patternOf x, (tt, tt))
 
-abbrev pub ofPatternOutcome : OutcomeOf number·of_pattern.ended
+abbrev pub ofPatternType : Ended
+ofPatternType = fn 0 (value u64 ∷ []) (value f64)
+
+abbrev pub ofPatternOutcome : OutcomeOf ofPatternType
 ofPatternOutcome κs (n, _) = (float n, (tt, tt))
 
-abbrev pub magnitudeOutcome : OutcomeOf number·magnitude.ended
+abbrev pub magnitudeType : Ended
+magnitudeType = fn 0 (value f64 ∷ []) (value f64)
+
+abbrev pub magnitudeOutcome : OutcomeOf magnitudeType
 magnitudeOutcome κs (x, _) = (magnitudeOf x, (tt, tt))
 
-abbrev pub isFiniteOutcome : OutcomeOf number·is_finite.ended
+abbrev pub isFiniteType : Ended
+isFiniteType = fn 0 (value f64 ∷ []) (value bool)
+
+abbrev pub isFiniteOutcome : OutcomeOf isFiniteType
 isFiniteOutcome κs (x, _) = (finite x, (tt, tt))
 
-abbrev pub isUsableOutcome : OutcomeOf number·is_usable.ended
+abbrev pub isUsableType : Ended
+isUsableType = fn 0 (value f64 ∷ []) (value bool)
+
+abbrev pub isUsableOutcome : OutcomeOf isUsableType
 isUsableOutcome κs (x, _) = (usable x, (tt, tt))
 
-abbrev pub maxOutcome : OutcomeOf number·max.ended
+abbrev pub maxType : Ended
+maxType = fn 0 (value f64 ∷ value f64 ∷ []) (value f64)
+
+abbrev pub maxOutcome : OutcomeOf maxType
 maxOutcome κs (x, (y, _)) = (maxOf x y, (tt, (tt, tt)))
 
 -- ---- decimals: a text read, a number written
 
-abbrev pub readOutcome : OutcomeOf decimal·read.ended
+abbrev pub readType : Ended
+readType = fn 1 (bytes 0 tt ∷ []) (value Parsed)
+
+abbrev pub readOutcome : OutcomeOf readType
 readOutcome κs (text, _) = (readOf (now text), (tt, tt))
 
-abbrev pub writeOutcome : OutcomeOf decimal·write.ended
+abbrev pub writeType : Ended
+writeType = fn 0 (value f64 ∷ []) (value Written)
+
+abbrev pub writeOutcome : OutcomeOf writeType
 writeOutcome κs (x, _) = (writtenOf x, (tt, tt))
 
 -- ---- and each of them is so. M: the logic's own resources, any
 
 pub record EntryPoints (M : Type 1) : Type 2 where
   -- what C calls, on a series
-  pub msar-loglike : EntryPoint M c·loglike.ended c·loglike.clauses c·loglike.Symbol.routine msarLoglikeOutcome
-  pub msar-filter : EntryPoint M c·filter.ended c·filter.clauses c·filter.Symbol.routine msarFilterOutcome
-  pub msar-smooth : EntryPoint M c·smooth.ended c·smooth.clauses c·smooth.Symbol.routine msarSmoothOutcome
-  pub msar-fit : EntryPoint M c·fit.ended c·fit.clauses c·fit.Symbol.routine msarFitOutcome
+  pub msar-loglike : EntryPoint M msarLoglikeType c·loglike.clauses c·loglike.Symbol.routine msarLoglikeOutcome
+  pub msar-filter : EntryPoint M msarFilterType c·filter.clauses c·filter.Symbol.routine msarFilterOutcome
+  pub msar-smooth : EntryPoint M msarSmoothType c·smooth.clauses c·smooth.Symbol.routine msarSmoothOutcome
+  pub msar-fit : EntryPoint M msarFitType c·fit.clauses c·fit.Symbol.routine msarFitOutcome
   -- what C calls, on a spec or on parameters alone
-  pub msar-windows : EntryPoint M c·windows.ended c·windows.clauses c·windows.Symbol.routine msarWindowsOutcome
-  pub msar-check : EntryPoint M c·check.ended c·check.clauses c·check.Symbol.routine msarCheckOutcome
-  pub msar-durations : EntryPoint M c·durations.ended c·durations.clauses c·durations.Symbol.routine msarDurationsOutcome
-  pub msar-shares : EntryPoint M c·shares.ended c·shares.clauses c·shares.Symbol.routine msarSharesOutcome
-  pub msar-matches : EntryPoint M c·matches.ended c·matches.clauses c·matches.Symbol.routine msarMatchesOutcome
+  pub msar-windows : EntryPoint M msarWindowsType c·windows.clauses c·windows.Symbol.routine msarWindowsOutcome
+  pub msar-check : EntryPoint M msarCheckType c·check.clauses c·check.Symbol.routine msarCheckOutcome
+  pub msar-durations : EntryPoint M msarDurationsType c·durations.clauses c·durations.Symbol.routine msarDurationsOutcome
+  pub msar-shares : EntryPoint M msarSharesType c·shares.clauses c·shares.Symbol.routine msarSharesOutcome
+  pub msar-matches : EntryPoint M msarMatchesType c·matches.clauses c·matches.Symbol.routine msarMatchesOutcome
   -- the calls on a series
-  pub loglike : EntryPoint M model·loglike.ended model·loglike.clauses model·loglike.Symbol.routine loglikeOutcome
-  pub filter : EntryPoint M model·filter.ended model·filter.clauses model·filter.Symbol.routine filterOutcome
-  pub smooth : EntryPoint M model·smooth.ended model·smooth.clauses model·smooth.Symbol.routine smoothOutcome
-  pub fit : EntryPoint M fit·fit.ended fit·fit.clauses fit·fit.Symbol.routine fitOutcome
+  pub loglike : EntryPoint M loglikeType model·loglike.clauses model·loglike.Symbol.routine loglikeOutcome
+  pub filter : EntryPoint M filterType model·filter.clauses model·filter.Symbol.routine filterOutcome
+  pub smooth : EntryPoint M smoothType model·smooth.clauses model·smooth.Symbol.routine smoothOutcome
+  pub fit : EntryPoint M fitType fit·fit.clauses fit·fit.Symbol.routine fitOutcome
   -- the checks of what a call is handed
-  pub bind : EntryPoint M binding·bind.ended binding·bind.clauses binding·bind.Symbol.routine bindOutcome
-  pub admit : EntryPoint M binding·admit.ended binding·admit.clauses binding·admit.Symbol.routine admitOutcome
+  pub bind : EntryPoint M bindType binding·bind.clauses binding·bind.Symbol.routine bindOutcome
+  pub admit : EntryPoint M admitType binding·admit.clauses binding·admit.Symbol.routine admitOutcome
   -- the record
-  pub record-new : EntryPoint M markov·new.ended markov·new.clauses markov·new.Symbol.routine recordNewOutcome
-  pub record-loglike : EntryPoint M markov·loglike.ended markov·loglike.clauses markov·loglike.Symbol.routine recordLoglikeOutcome
-  pub record-filter : EntryPoint M markov·filter.ended markov·filter.clauses markov·filter.Symbol.routine recordFilterOutcome
-  pub record-smooth : EntryPoint M markov·smooth.ended markov·smooth.clauses markov·smooth.Symbol.routine recordSmoothOutcome
-  pub record-fit : EntryPoint M markov·fit.ended markov·fit.clauses markov·fit.Symbol.routine recordFitOutcome
+  pub record-new : EntryPoint M recordNewType markov·new.clauses markov·new.Symbol.routine recordNewOutcome
+  pub record-loglike : EntryPoint M recordLoglikeType markov·loglike.clauses markov·loglike.Symbol.routine recordLoglikeOutcome
+  pub record-filter : EntryPoint M recordFilterType markov·filter.clauses markov·filter.Symbol.routine recordFilterOutcome
+  pub record-smooth : EntryPoint M recordSmoothType markov·smooth.clauses markov·smooth.Symbol.routine recordSmoothOutcome
+  pub record-fit : EntryPoint M recordFitType markov·fit.clauses markov·fit.Symbol.routine recordFitOutcome
   -- the record made and used once
-  pub check-of : EntryPoint M markov·check_of.ended markov·check_of.clauses markov·check_of.Symbol.routine checkOfOutcome
-  pub loglike-of : EntryPoint M markov·loglike_of.ended markov·loglike_of.clauses markov·loglike_of.Symbol.routine loglikeOutcome
-  pub filter-of : EntryPoint M markov·filter_of.ended markov·filter_of.clauses markov·filter_of.Symbol.routine filterOutcome
-  pub smooth-of : EntryPoint M markov·smooth_of.ended markov·smooth_of.clauses markov·smooth_of.Symbol.routine smoothOutcome
-  pub fit-of : EntryPoint M markov·fit_of.ended markov·fit_of.clauses markov·fit_of.Symbol.routine fitOutcome
+  pub check-of : EntryPoint M checkOfType markov·check_of.clauses markov·check_of.Symbol.routine checkOfOutcome
+  pub loglike-of : EntryPoint M loglikeType markov·loglike_of.clauses markov·loglike_of.Symbol.routine loglikeOutcome
+  pub filter-of : EntryPoint M filterType markov·filter_of.clauses markov·filter_of.Symbol.routine filterOutcome
+  pub smooth-of : EntryPoint M smoothType markov·smooth_of.clauses markov·smooth_of.Symbol.routine smoothOutcome
+  pub fit-of : EntryPoint M fitType markov·fit_of.clauses markov·fit_of.Symbol.routine fitOutcome
   -- the spec, the parameters, the stationary shares
-  pub expanded-states : EntryPoint M spec·expanded_states.ended spec·expanded_states.clauses spec·expanded_states.Symbol.routine expandedStatesOutcome
-  pub new : EntryPoint M params·new.ended params·new.clauses params·new.Symbol.routine newOutcome
-  pub check : EntryPoint M params·check.ended params·check.clauses params·check.Symbol.routine checkOutcome
-  pub expected-durations : EntryPoint M params·expected_durations.ended params·expected_durations.clauses params·expected_durations.Symbol.routine expectedDurationsOutcome
-  pub matches-spec : EntryPoint M params·matches_spec.ended params·matches_spec.clauses params·matches_spec.Symbol.routine matchesSpecOutcome
-  pub k-regimes : EntryPoint M params·k_regimes.ended params·k_regimes.clauses params·k_regimes.Symbol.routine kRegimesOutcome
-  pub order : EntryPoint M params·order.ended params·order.clauses params·order.Symbol.routine orderOutcome
-  pub switching-ar : EntryPoint M params·switching_ar.ended params·switching_ar.clauses params·switching_ar.Symbol.routine switchingArOutcome
-  pub switching-variance : EntryPoint M params·switching_variance.ended params·switching_variance.clauses params·switching_variance.Symbol.routine switchingVarianceOutcome
-  pub stationary-shares : EntryPoint M stationary·stationary_shares.ended stationary·stationary_shares.clauses stationary·stationary_shares.Symbol.routine stationarySharesOutcome
+  pub expanded-states : EntryPoint M expandedStatesType spec·expanded_states.clauses spec·expanded_states.Symbol.routine expandedStatesOutcome
+  pub new : EntryPoint M newType params·new.clauses params·new.Symbol.routine newOutcome
+  pub check : EntryPoint M checkType params·check.clauses params·check.Symbol.routine checkOutcome
+  pub expected-durations : EntryPoint M expectedDurationsType params·expected_durations.clauses params·expected_durations.Symbol.routine expectedDurationsOutcome
+  pub matches-spec : EntryPoint M matchesSpecType params·matches_spec.clauses params·matches_spec.Symbol.routine matchesSpecOutcome
+  pub k-regimes : EntryPoint M kRegimesType params·k_regimes.clauses params·k_regimes.Symbol.routine kRegimesOutcome
+  pub order : EntryPoint M orderType params·order.clauses params·order.Symbol.routine orderOutcome
+  pub switching-ar : EntryPoint M switchingArType params·switching_ar.clauses params·switching_ar.Symbol.routine switchingArOutcome
+  pub switching-variance : EntryPoint M switchingVarianceType params·switching_variance.clauses params·switching_variance.Symbol.routine switchingVarianceOutcome
+  pub stationary-shares : EntryPoint M stationarySharesType stationary·stationary_shares.clauses stationary·stationary_shares.Symbol.routine stationarySharesOutcome
   -- refusals
-  pub number : EntryPoint M refusal·number.ended refusal·number.clauses refusal·number.Symbol.routine numberOutcome
-  pub place : EntryPoint M refusal·place.ended refusal·place.clauses refusal·place.Symbol.routine placeOutcome
-  pub value : EntryPoint M refusal·value.ended refusal·value.clauses refusal·value.Symbol.routine valueOutcome
-  pub first-of : EntryPoint M refusal·first_of.ended refusal·first_of.clauses refusal·first_of.Symbol.routine firstOfOutcome
+  pub number : EntryPoint M numberType refusal·number.clauses refusal·number.Symbol.routine numberOutcome
+  pub place : EntryPoint M placeType refusal·place.clauses refusal·place.Symbol.routine placeOutcome
+  pub value : EntryPoint M valueType refusal·value.clauses refusal·value.Symbol.routine valueOutcome
+  pub first-of : EntryPoint M firstOfType refusal·first_of.clauses refusal·first_of.Symbol.routine firstOfOutcome
   -- the solver, and elementary functions, here and from C
-  pub solve : EntryPoint M linsolve·solve.ended linsolve·solve.clauses linsolve·solve.Symbol.routine solveOutcome
-  pub root : EntryPoint M root·root.ended root·root.clauses root·root.Symbol.routine rootOutcome
-  pub log : EntryPoint M log·log.ended log·log.clauses log·log.Symbol.routine logOutcome
-  pub exp : EntryPoint M exp·exp.ended exp·exp.clauses exp·exp.Symbol.routine expOutcome
-  pub lnpdf : EntryPoint M normal·lnpdf.ended normal·lnpdf.clauses normal·lnpdf.Symbol.routine lnpdfOutcome
-  pub msar-root : EntryPoint M c·root.ended c·root.clauses c·root.Symbol.routine rootOutcome
-  pub msar-log : EntryPoint M c·log.ended c·log.clauses c·log.Symbol.routine logOutcome
-  pub msar-exp : EntryPoint M c·exp.ended c·exp.clauses c·exp.Symbol.routine expOutcome
-  pub msar-lnpdf : EntryPoint M c·lnpdf.ended c·lnpdf.clauses c·lnpdf.Symbol.routine lnpdfOutcome
+  pub solve : EntryPoint M solveType linsolve·solve.clauses linsolve·solve.Symbol.routine solveOutcome
+  pub root : EntryPoint M rootType root·root.clauses root·root.Symbol.routine rootOutcome
+  pub log : EntryPoint M logType log·log.clauses log·log.Symbol.routine logOutcome
+  pub exp : EntryPoint M expType exp·exp.clauses exp·exp.Symbol.routine expOutcome
+  pub lnpdf : EntryPoint M lnpdfType normal·lnpdf.clauses normal·lnpdf.Symbol.routine lnpdfOutcome
+  pub msar-root : EntryPoint M rootType c·root.clauses c·root.Symbol.routine rootOutcome
+  pub msar-log : EntryPoint M logType c·log.clauses c·log.Symbol.routine logOutcome
+  pub msar-exp : EntryPoint M expType c·exp.clauses c·exp.Symbol.routine expOutcome
+  pub msar-lnpdf : EntryPoint M lnpdfType c·lnpdf.clauses c·lnpdf.Symbol.routine lnpdfOutcome
   -- numbers
-  pub pattern : EntryPoint M number·pattern.ended number·pattern.clauses number·pattern.Symbol.routine patternOutcome
-  pub of-pattern : EntryPoint M number·of_pattern.ended number·of_pattern.clauses number·of_pattern.Symbol.routine ofPatternOutcome
-  pub magnitude : EntryPoint M number·magnitude.ended number·magnitude.clauses number·magnitude.Symbol.routine magnitudeOutcome
-  pub is-finite : EntryPoint M number·is_finite.ended number·is_finite.clauses number·is_finite.Symbol.routine isFiniteOutcome
-  pub is-usable : EntryPoint M number·is_usable.ended number·is_usable.clauses number·is_usable.Symbol.routine isUsableOutcome
-  pub max : EntryPoint M number·max.ended number·max.clauses number·max.Symbol.routine maxOutcome
+  pub pattern : EntryPoint M patternType number·pattern.clauses number·pattern.Symbol.routine patternOutcome
+  pub of-pattern : EntryPoint M ofPatternType number·of_pattern.clauses number·of_pattern.Symbol.routine ofPatternOutcome
+  pub magnitude : EntryPoint M magnitudeType number·magnitude.clauses number·magnitude.Symbol.routine magnitudeOutcome
+  pub is-finite : EntryPoint M isFiniteType number·is_finite.clauses number·is_finite.Symbol.routine isFiniteOutcome
+  pub is-usable : EntryPoint M isUsableType number·is_usable.clauses number·is_usable.Symbol.routine isUsableOutcome
+  pub max : EntryPoint M maxType number·max.clauses number·max.Symbol.routine maxOutcome
   -- decimals
-  pub read : EntryPoint M decimal·read.ended decimal·read.clauses decimal·read.Symbol.routine readOutcome
-  pub write : EntryPoint M decimal·write.ended decimal·write.clauses decimal·write.Symbol.routine writeOutcome
+  pub read : EntryPoint M readType decimal·read.clauses decimal·read.Symbol.routine readOutcome
+  pub write : EntryPoint M writeType decimal·write.clauses decimal·write.Symbol.routine writeOutcome

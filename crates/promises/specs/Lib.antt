@@ -1,5 +1,7 @@
 -- what is promised of an entry point
 pub mod Contracts
+-- functions' types, as the source writes them
+pub mod Types
 -- the entry points, each with the outcome that it gives: the whole promise to a caller
 pub mod EntryPoints
 -- what serves the crates above, and has one outcome
