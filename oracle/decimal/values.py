@@ -1,5 +1,5 @@
 #!/usr/bin/env python3
-# Lines for crates/decimals: values.py COUNT SEED. Each is a number that it takes, and spaces up to 95 bytes.
+# Lines for crates/run_decimals: values.py COUNT SEED. Each is a number that it takes, and spaces up to 95 bytes.
 # A fifth each: bit patterns at random; %.17g of patterns at random; random digits, point and exponent; exact halfway decimals cut
 # to 19 digits and moved by one; few digits near one.
 import random, struct, sys

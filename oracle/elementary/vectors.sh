@@ -1,6 +1,6 @@
 #!/usr/bin/env bash
 # Writes the test vectors of the crate vectors anew, by Java: FOLDER/stdin and FOLDER/stdout.
-# oracle/elementary/vectors.sh [FOLDER]; FOLDER is crates/vectors where none is given.
+# oracle/elementary/vectors.sh [FOLDER]; FOLDER is crates/run_vectors where none is given.
 set -euo pipefail
 
 for tool in javac java; do
@@ -8,7 +8,7 @@ for tool in javac java; do
 done
 
 here=$(cd "$(dirname "${BASH_SOURCE[0]}")" && pwd)
-folder=${1:-$here/../../crates/vectors}
+folder=${1:-$here/../../crates/run_vectors}
 room=$(mktemp -d)
 trap 'rm -rf "$room"' EXIT
 

@@ -2,7 +2,7 @@
 # Writes the systems of the crate systems anew, and the answers of the Rust's `solve`: FOLDER/stdin and FOLDER/stdout.
 # oracle/linsolve/systems.sh SOURCES [FOLDER [SEED ROUNDS]]
 # SOURCES: the folder with the Rust sources (linsolve.rs); they are never copied into the repository.
-# FOLDER: crates/systems where none is given. SEED, ROUNDS: those of the crate's files where none are given.
+# FOLDER: crates/run_systems where none is given. SEED, ROUNDS: those of the crate's files where none are given.
 set -euo pipefail
 
 usage() {
@@ -13,7 +13,7 @@ usage() {
 [[ -f $1/linsolve.rs ]] || { echo "$0: no linsolve.rs in $1" >&2; exit 2; }
 
 here=$(cd "$(dirname "${BASH_SOURCE[0]}")" && pwd)
-folder=${2:-$here/../../crates/systems}
+folder=${2:-$here/../../crates/run_systems}
 seed=${3:-19890301}
 rounds=${4:-1}
 [[ $seed =~ ^[0-9]+$ && $rounds =~ ^[1-9][0-9]*$ ]] || usage

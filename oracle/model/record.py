@@ -1,5 +1,5 @@
-"""Writes recorded cases for crates/replay: record.py ORACLE FOLDER calls|fits .., ORACLE being the routed one.
-FOLDER/stdin has the cases and FOLDER/stdout the answers, in the lines that README.md and crates/replay/src/main.rt name."""
+"""Writes recorded cases for crates/run_replay: record.py ORACLE FOLDER calls|fits .., ORACLE being the routed one.
+FOLDER/stdin has the cases and FOLDER/stdout the answers, in the lines that README.md and crates/run_replay/src/main.rt name."""
 import itertools
 import random
 import subprocess

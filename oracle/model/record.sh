@@ -6,7 +6,7 @@ set -euo pipefail
 
 [[ $# -eq 1 || $# -eq 2 ]] || { echo "usage: $0 SOURCES [FOLDER]" >&2; exit 2; }
 here=$(cd "$(dirname "${BASH_SOURCE[0]}")" && pwd)
-folder=${2:-$here/../../crates/replay}
+folder=${2:-$here/../../crates/run_replay}
 [[ -d $folder ]] || { echo "$0: no folder $folder" >&2; exit 2; }
 room=$(mktemp -d)
 trap 'rm -rf "$room"' EXIT

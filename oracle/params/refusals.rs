@@ -1,4 +1,4 @@
-// What the Rust answers to the records and specs of crates/refusals, in that program's lines. spec.rs and params.rs stand
+// What the Rust answers to the records and specs of crates/run_refusals, in that program's lines. spec.rs and params.rs stand
 // beside this file when it is built, as they are, and error.rs is the stand-in of oracle/model.
 mod error;
 mod params;

@@ -1,5 +1,5 @@
 #!/usr/bin/env bash
-# Writes the answers of the Rust to the records and specs of crates/refusals: crates/refusals/stdout, or FILE.
+# Writes the answers of the Rust to the records and specs of crates/run_refusals: crates/run_refusals/stdout, or FILE.
 # oracle/params/refusals.sh SOURCES [FILE]
 # SOURCES: the folder with the Rust sources (spec.rs, params.rs); they are never copied into the repository.
 set -euo pipefail
@@ -11,7 +11,7 @@ done
 command -v rustc >/dev/null || { echo "$0: rustc is missing" >&2; exit 2; }
 
 here=$(cd "$(dirname "${BASH_SOURCE[0]}")" && pwd)
-file=${2:-$here/../../crates/refusals/stdout}
+file=${2:-$here/../../crates/run_refusals/stdout}
 room=$(mktemp -d)
 trap 'rm -rf "$room"' EXIT
 

@@ -16,7 +16,7 @@ use Rattle.refusal.specs.declared.Check.the-variants.{Passed, Failed}
 use Rattle.refusal.specs.declared.Refusal.{Refusal}
 use Rattle.params.specs.declared.MsarParams.{MsarParams}
 use Rattle.filter.specs.declared.Answer.{Answer}
-use Rattle.model.specs.Calls.{Outcome}
+use Rattle.calls.specs.Calls.{Outcome}
 use Rattle.fit.specs.declared.Fitted.{Fitted}
 use Rattle.fit.specs.Calls.{FitOutcome}
 use Rattle.c_interface.specs.Interface.{Spelled, spelled, Listed, valuesAfter, listed, Left, left, laidOut, flag, fitSpelled, numbersAfter, FitLeft, fitLeft}

@@ -16,7 +16,7 @@ use Rattle.spec.specs.declared.Windows.the-variants.{Count, Refused}
 use Rattle.params.specs.declared.MsarParams.{MsarParams}
 use Rattle.params.specs.declared.Durations.{Durations}
 use Rattle.stationary.specs.declared.Shares.{Shares}
-use Rattle.model.specs.Calls.{Outcome}
+use Rattle.calls.specs.Calls.{Outcome}
 use Rattle.fit.specs.declared.Fitted.{Fitted}
 use Rattle.fit.specs.Calls.{FitOutcome}
 

@@ -12,7 +12,7 @@ ghost use Rattle.params.specs.Parameters.{matchesSpec};
 ghost use Rattle.params.specs.Checks.{parameterCheck};
 ghost use Rattle.params.specs.Durations.{durationsOf};
 ghost use Rattle.stationary.specs.Stationary.{sharesOf};
-ghost use Rattle.model.specs.Calls.{loglikeCall, filterCall, smoothCall};
+ghost use Rattle.calls.specs.Calls.{loglikeCall, filterCall, smoothCall};
 ghost use Rattle.fit.specs.Calls.{fitCall};
 ghost use Rattle.c_interface.specs.Interface.{specOf, paramsOf, Spelled, spelled, windowsSpelled, Listed, durationsListed, sharesListed, Left, left, FitLeft, fitLeft};
 use spec::MsarSpec;
@@ -45,7 +45,7 @@ pub extern "C" fn msar_loglike(
         switching_variance,
     };
     let q = given::params_of(counts, numbers);
-    let answer = model::loglike(s, series, q, work);
+    let answer = calls::loglike(s, series, q, work);
     let check = answer.check;
     told::spell(check, 0, answer.loglik, whole, real);
 }
@@ -74,7 +74,7 @@ pub extern "C" fn msar_filter(
         switching_variance,
     };
     let q = given::params_of(counts, numbers);
-    let answer = model::filter(s, series, q, work, filtered);
+    let answer = calls::filter(s, series, q, work, filtered);
     let check = answer.check;
     told::spell(check, 0, answer.loglik, whole, real);
 }
@@ -104,7 +104,7 @@ pub extern "C" fn msar_smooth(
         switching_variance,
     };
     let q = given::params_of(counts, numbers);
-    let answer = model::smooth(s, series, q, work, filtered, smoothed);
+    let answer = calls::smooth(s, series, q, work, filtered, smoothed);
     let check = answer.check;
     told::spell(check, 0, answer.loglik, whole, real);
 }

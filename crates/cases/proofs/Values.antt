@@ -32,7 +32,7 @@ use Rattle.prediction.specs.Prediction.{firstTo, firstPrediction}
 use Rattle.prediction.specs.Steps.{firstAt, stepAt, laterAt, sumBefore}
 use Rattle.binding.specs.Binding.{readingCheck, seriesCheck, boundCheck, paramsCheck, admittedCheck}
 use Rattle.binding.specs.declared.Tables.the-variants.{One}
-use Rattle.series.proofs.Examples as variances
+use Rattle.em_sample_variance.proofs.Examples as variances
 use Rattle.fit.specs.Calls.{fitCheck, fitCall}
 use Rattle.cases.specs.Cases.{same, fails, failsWith, twoRegimes, unitsOf}
 

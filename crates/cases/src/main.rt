@@ -286,7 +286,8 @@ fn sample_variances() -> bool
 {
     let spread = [1.0, 3.0];
     let constant = [2.0, 2.0];
-    is(series::sample_variance(&spread), 1.0) & is(series::sample_variance(&constant), 0.0)
+    is(em_sample_variance::sample_variance(&spread), 1.0)
+        & is(em_sample_variance::sample_variance(&constant), 0.0)
 }
 
 // What a fit at order 1 of the series 2, 2 is refused by; it is lent all the memory that it needs, for one row of four windows.

@@ -25,16 +25,16 @@ use Rattle.refusal.proofs.Checks.{both, untrue}
 use Rattle.binding.specs.Binding.{workNeed, paramsCheck, admittedCheck}
 use Rattle.binding.specs.declared.Bound.{Bound}
 use Rattle.binding.specs.declared.Tables.the-variants.{One}
-use Rattle.series.specs.Series.{sampleVariance}
-use Rattle.ridge.specs.Ridge.{small}
+use Rattle.em_sample_variance.specs.Series.{sampleVariance}
+use Rattle.em_ridge.specs.Ridge.{small}
 use Rattle.filter.specs.Filter.{runCheck, loglikOf, answerAfter, answerOf}
 use Rattle.filter.specs.Steps.{windowsOf}
 use Rattle.filter.specs.declared.Answer.{Answer}
-use Rattle.model.specs.Calls.{cleared, smoothedTable}
-use Rattle.model.proofs.Runs.{rows-fit}
-use Rattle.model.proofs.Admitted.{Admitted}
-use Rattle.step.specs.Ready.{Ready}
-use Rattle.step.proofs.Kept.{Alike, Good, windows-alike, still-ready}
+use Rattle.calls.specs.Calls.{cleared, smoothedTable}
+use Rattle.calls.proofs.Runs.{rows-fit}
+use Rattle.calls.proofs.Admitted.{Admitted}
+use Rattle.em_step.specs.Ready.{Ready}
+use Rattle.em_step.proofs.Kept.{Alike, Good, windows-alike, still-ready}
 use Rattle.fit.specs.declared.Course.the-variants.{Going, Converged, Refused}
 use Rattle.fit.specs.declared.Course.{Course}
 use Rattle.fit.specs.declared.End.{End}

@@ -17,8 +17,8 @@ use Rattle.refusal.specs.declared.Refusal.the-variants.{Loglike}
 use Rattle.params.specs.declared.MsarParams.{MsarParams}
 use Rattle.params.specs.Checks.{parameterCheck}
 use Rattle.filter.specs.Filter.{rowCount, runCheck, loglikOf}
-use Rattle.step.specs.Step.{stepOf}
-use Rattle.step.proofs.Kept.{Alike, alike-twice, Good, step-good}
+use Rattle.em_step.specs.Step.{stepOf}
+use Rattle.em_step.proofs.Kept.{Alike, alike-twice, Good, step-good}
 use Rattle.fit.specs.declared.Course.{Course}
 use Rattle.fit.specs.declared.Course.the-variants.{Going, Converged, Refused}
 use Rattle.fit.specs.declared.State.{State}

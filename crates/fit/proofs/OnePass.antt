@@ -23,10 +23,10 @@ use Rattle.filter.specs.Steps.{windowsOf, Held}
 use Rattle.filter.specs.declared.Answer.{Answer}
 use Rattle.smoother.specs.Smoother.{smoothedRow}
 use Rattle.smoother.specs.InMemory.{SmoothedRows}
-use Rattle.model.proofs.Runs.{run-says}
-use Rattle.step.specs.Step.{stepOf}
-use Rattle.step.specs.Ready.{Ready}
-use Rattle.step.proofs.Kept.{step-same}
+use Rattle.calls.proofs.Runs.{run-says}
+use Rattle.em_step.specs.Step.{stepOf}
+use Rattle.em_step.specs.Ready.{Ready}
+use Rattle.em_step.proofs.Kept.{step-same}
 use Rattle.fit.specs.declared.Course.{Course}
 use Rattle.fit.specs.declared.Course.the-variants.{Going, Converged, Refused}
 use Rattle.fit.specs.declared.State.{State}

@@ -15,8 +15,8 @@ use Rattle.params.specs.declared.MsarParams.{MsarParams}
 use Rattle.params.specs.Parameters.{p}
 use Rattle.binding.specs.Binding.{admittedCheck, workNeed}
 use Rattle.binding.specs.declared.Tables.the-variants.{One}
-use Rattle.series.specs.Series.{sampleVariance}
-use Rattle.model.specs.Calls.{cleared, smoothedTable}
+use Rattle.em_sample_variance.specs.Series.{sampleVariance}
+use Rattle.calls.specs.Calls.{cleared, smoothedTable}
 use Rattle.fit.specs.declared.Course.{Course}
 use Rattle.fit.specs.declared.Course.the-variants.{Going, Converged, Refused}
 use Rattle.fit.specs.declared.Fitted.{Fitted}

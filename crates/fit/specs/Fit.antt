@@ -14,7 +14,7 @@ use Rattle.params.specs.declared.MsarParams.{MsarParams}
 use Rattle.params.specs.Built.{tidy, nothing}
 use Rattle.filter.specs.Filter.{predictedRow, filteredRow, rowCount, startShares, runCheck, loglikOf}
 use Rattle.smoother.specs.Smoother.{smoothedRow}
-use Rattle.step.specs.Step.{stepOf}
+use Rattle.em_step.specs.Step.{stepOf}
 use Rattle.fit.specs.declared.Course.{Course}
 use Rattle.fit.specs.declared.Course.the-variants.{Going, Converged, Refused}
 use Rattle.fit.specs.declared.State.{State}

@@ -17,9 +17,9 @@ ghost use Rattle.params.specs.Checks.{parameterCheck};
 ghost use Rattle.params.specs.Built.{tidy};
 ghost use Rattle.filter.specs.Filter.{startShares, answerOf};
 ghost use Rattle.filter.specs.Steps.{windowsOf, Held};
-ghost use Rattle.series.specs.Series.{sampleVariance};
-ghost use Rattle.model.specs.Calls.{cleared, smoothedTable};
-ghost use Rattle.step.specs.Ready.{Ready};
+ghost use Rattle.em_sample_variance.specs.Series.{sampleVariance};
+ghost use Rattle.calls.specs.Calls.{cleared, smoothedTable};
+ghost use Rattle.em_step.specs.Ready.{Ready};
 ghost use Rattle.fit.specs.Fit.{stops, passesTo, fittedAfter, fittedOf};
 ghost use Rattle.fit.specs.Verdicts.{verdictAfter, verdictOf, endOf};
 ghost use Rattle.fit.specs.declared.Course.the-variants.{Going, Converged};
@@ -165,7 +165,7 @@ fn passes(
             }
             Course::Going => {
                 smoother::smooth(q, power, n, work);
-                let new = step::step(q, y, floor, power, n, work);
+                let new = em_step::step(q, y, floor, power, n, work);
                 let check = new.check;
                 if let Check::Failed(r) = check {
                     return State {
@@ -360,7 +360,7 @@ pub fn fit(
     if let Check::Failed(r) = bound {
         return refused(r);
     }
-    let variance = series::sample_variance(y);
+    let variance = em_sample_variance::sample_variance(y);
     if let Check::Failed(r) = check(start.order, variance) {
         return refused(r);
     }

@@ -1,8 +1,8 @@
 // The command line.
 ghost use Prim.Native.Nat.{_≤_};
 use crate::say;
-use decimal::Parsed;
-use text::Count;
+use text_decimal::Parsed;
+use text_words::Count;
 
 pub enum Command {
     Nothing,
@@ -56,22 +56,22 @@ fn nothing() -> Options {
 // ---- one word
 
 fn command_of(word: &[u8]) -> Command {
-    if text::same(word, b"check") {
+    if text_words::same(word, b"check") {
         return Command::Check;
     }
-    if text::same(word, b"durations") {
+    if text_words::same(word, b"durations") {
         return Command::Durations;
     }
-    if text::same(word, b"loglike") {
+    if text_words::same(word, b"loglike") {
         return Command::Loglike;
     }
-    if text::same(word, b"filter") {
+    if text_words::same(word, b"filter") {
         return Command::Filter;
     }
-    if text::same(word, b"smooth") {
+    if text_words::same(word, b"smooth") {
         return Command::Smooth;
     }
-    if text::same(word, b"fit") {
+    if text_words::same(word, b"fit") {
         return Command::Fit;
     }
     Command::Nothing
@@ -138,19 +138,19 @@ fn is_option(word: &[u8]) -> bool {
 }
 
 fn option(word: &[u8], o: Options) -> Options {
-    if text::same(word, b"--help") {
+    if text_words::same(word, b"--help") {
         return with_command(o, Command::Help);
     }
-    if text::same(word, b"--version") {
+    if text_words::same(word, b"--version") {
         return with_command(o, Command::Version);
     }
-    if text::same(word, b"--column") {
+    if text_words::same(word, b"--column") {
         return waiting_for(o, Waiting::Column);
     }
-    if text::same(word, b"--max-iter") {
+    if text_words::same(word, b"--max-iter") {
         return waiting_for(o, Waiting::MaxIter);
     }
-    if text::same(word, b"--tol") {
+    if text_words::same(word, b"--tol") {
         return waiting_for(o, Waiting::Tol);
     }
     say::error_of(b"no such option (msar --help says which there are): ", word);
@@ -160,7 +160,7 @@ fn option(word: &[u8], o: Options) -> Options {
 // ---- the value of an option
 
 fn max_iter(word: &[u8], o: Options) -> Options {
-    match text::whole(word) {
+    match text_words::whole(word) {
         Count::Wrong => {
             say::error_of(
                 b"--max-iter takes a whole number below 1000000000, and not ",
@@ -178,7 +178,7 @@ fn max_iter(word: &[u8], o: Options) -> Options {
 }
 
 fn tol(word: &[u8], o: Options) -> Options {
-    match decimal::read(word) {
+    match text_decimal::read(word) {
         Parsed::Wrong(_) => {
             say::error_of(b"--tol takes a number, and not ", word);
             bad(o)

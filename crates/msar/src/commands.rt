@@ -85,7 +85,7 @@ pub fn durations(q: MsarParams) {
 // ---- on a model and a series
 
 fn loglike(s: MsarSpec, y: &[f64], q: MsarParams, readings: usize, work: &mut [f64]) {
-    let answer = model::loglike(s, y, q, work);
+    let answer = calls::loglike(s, y, q, work);
     let check = answer.check;
     if has_passed(check, readings) {
         table::loglike(readings, answer.loglik);
@@ -100,7 +100,7 @@ fn filter(
     work: &mut [f64],
     filtered: &mut [f64],
 ) {
-    let answer = model::filter(s, y, q, work, filtered);
+    let answer = calls::filter(s, y, q, work, filtered);
     let check = answer.check;
     if has_passed(check, readings) {
         table::probabilities(y, s.order, filtered, s.k_regimes);
@@ -116,7 +116,7 @@ fn smooth(
     filtered: &mut [f64],
     smoothed: &mut [f64],
 ) {
-    let answer = model::smooth(s, y, q, work, filtered, smoothed);
+    let answer = calls::smooth(s, y, q, work, filtered, smoothed);
     let check = answer.check;
     if has_passed(check, readings) {
         table::probabilities(y, s.order, smoothed, s.k_regimes);

@@ -1,6 +1,6 @@
 // The lines of a file, read in blocks of 4,096 bytes. A line's end is no part of it.
 ghost use mathlib.Core.Path.{_≡_};
-ghost use Rattle.text.specs.Places.{Leads};
+ghost use Rattle.text_words.specs.Places.{Leads};
 
 // What was read of the file and not yet taken: of the block's first `have` bytes those from `at` on.
 pub struct Source {

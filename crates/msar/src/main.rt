@@ -17,15 +17,15 @@ mod table;
 use args::Command;
 use args::Options;
 use params::MsarParams;
-use series_text::Column;
 use spec::MsarSpec;
-use text::Count;
+use text_series::Column;
+use text_words::Count;
 
 // ---- files
 
 // The descriptor of a file, `-` being standard input; below 0 where it cannot be opened, which is said by then.
 fn opened(path: &[u8]) -> i32 {
-    if text::same(path, b"-") {
+    if text_words::same(path, b"-") {
         return libc::STDIN_FILENO;
     }
     let fd = os::open_read(path);
@@ -38,14 +38,14 @@ fn opened(path: &[u8]) -> i32 {
 fn is_input(i: usize) -> bool {
     let mut word = io::buffer();
     let n = os::arg(i, &mut word);
-    text::same(&word[..n], b"-")
+    text_words::same(&word[..n], b"-")
 }
 
 // ---- on a series
 
 // A column's number counts from 1 for the user.
 fn column_of(word: &[u8]) -> Column {
-    match text::whole(word) {
+    match text_words::whole(word) {
         Count::Wrong => Column::Named,
         Count::Number(n) => {
             if n == 0 {

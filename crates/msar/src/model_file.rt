@@ -3,11 +3,11 @@ use crate::lines;
 use crate::lines::Source;
 use crate::lines::State;
 use crate::say;
-use model_text::Draft;
-use model_text::Fault;
-use model_text::Model;
-use model_text::Outcome;
-use model_text::Step;
+use text_model::Draft;
+use text_model::Fault;
+use text_model::Model;
+use text_model::Outcome;
+use text_model::Step;
 
 // What was at fault is said by then.
 pub struct Reading {
@@ -145,12 +145,12 @@ fn one_line(
             draft,
             course: Course::Done,
         },
-        State::Whole => turned(path, number, after, model_text::read(&line[..n], draft)),
+        State::Whole => turned(path, number, after, text_model::read(&line[..n], draft)),
     }
 }
 
 fn ended(path: &[u8], number: u64, draft: Draft) -> Reading {
-    let model = model_text::finish(draft);
+    let model = text_model::finish(draft);
     let outcome = model.outcome;
     Reading {
         good: is_fine(path, number, outcome),
@@ -161,7 +161,7 @@ fn ended(path: &[u8], number: u64, draft: Draft) -> Reading {
 fn bad(draft: Draft) -> Reading {
     Reading {
         good: false,
-        model: model_text::finish(draft),
+        model: text_model::finish(draft),
     }
 }
 
@@ -169,7 +169,7 @@ fn bad(draft: Draft) -> Reading {
 pub fn read(fd: i32, path: &[u8]) -> Reading {
     let mut block = io::buffer();
     let mut source = lines::of(fd);
-    let mut draft = model_text::start();
+    let mut draft = text_model::start();
     let mut number: u64 = 1;
     while number < 0x1_0000_0000 {
         let t = one_line(path, number, source, draft, &mut block);

@@ -1,6 +1,6 @@
 // A MODEL, as `fit` writes it: numbers with 17 digits, so that the same bits are read back.
 ghost use Prim.Native.Nat.{_<_, _≤_};
-ghost use Rattle.text.specs.Places.{Leads};
+ghost use Rattle.text_words.specs.Places.{Leads};
 use crate::put;
 use crate::put::Text;
 use crate::table::entry;

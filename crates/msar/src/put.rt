@@ -1,5 +1,5 @@
 // Pieces of a message or of a row of output, put behind each other. What finds no room is left out; the largest message fits.
-ghost use Rattle.text.specs.Places.{Leads};
+ghost use Rattle.text_words.specs.Places.{Leads};
 
 // Room for a path and a message, and for a model of 16 regimes, of 8,100 bytes.
 pub type Text = [u8; 16384];
@@ -7,7 +7,7 @@ pub type Text = [u8; 16384];
 pub fn bytes(out: &mut Text, at: usize, text: &[u8]) -> usize
     ensures { λ r. ⌜ Leads r (now (out .exit)) ⌝ }
 {
-    text::put(out, at, text)
+    text_words::put(out, at, text)
 }
 
 pub fn whole(out: &mut Text, at: usize, n: u64) -> usize
@@ -15,23 +15,23 @@ pub fn whole(out: &mut Text, at: usize, n: u64) -> usize
 {
     let mut digits = [0u8; 20];
     let k = io::decimal(n, &mut digits);
-    text::put(out, at, &digits[..k])
+    text_words::put(out, at, &digits[..k])
 }
 
 // 17 significant digits, from which the same bits are read back.
 pub fn number(out: &mut Text, at: usize, x: f64) -> usize
     ensures { λ r. ⌜ Leads r (now (out .exit)) ⌝ }
 {
-    let written = decimal::write(x);
+    let written = text_decimal::write(x);
     let digits = written.bytes;
-    text::put_piece(out, at, digits, written.length)
+    text_words::put_piece(out, at, digits, written.length)
 }
 
 // The name of a file, as an error names it.
 pub fn name(out: &mut Text, at: usize, path: &[u8]) -> usize
     ensures { λ r. ⌜ Leads r (now (out .exit)) ⌝ }
 {
-    if text::same(path, b"-") {
+    if text_words::same(path, b"-") {
         return bytes(out, at, b"standard input");
     }
     bytes(out, at, path)

@@ -1,5 +1,5 @@
 // What the program says on standard error: one line, which begins with `msar: error` or `msar: refused`.
-ghost use Rattle.text.specs.Places.{Leads};
+ghost use Rattle.text_words.specs.Places.{Leads};
 use crate::put;
 use crate::put::Text;
 use refusal::Refusal;

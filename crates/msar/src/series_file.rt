@@ -4,9 +4,9 @@ use crate::lines::Source;
 use crate::lines::State;
 use crate::model_file::column;
 use crate::say;
-use series_text::Column;
-use series_text::Fault;
-use series_text::Item;
+use text_series::Column;
+use text_series::Fault;
+use text_series::Item;
 
 // What was at fault is said by then. Readings are counted past the room for them.
 pub struct Reading {
@@ -206,7 +206,7 @@ fn one_line(
             course: Course::Done,
         },
         State::Whole => {
-            let item = series_text::read(&line[..n], column, name, p.first);
+            let item = text_series::read(&line[..n], column, name, p.first);
             turned(after, added(path, number, p, item, name, series))
         }
     }

@@ -1,6 +1,6 @@
 // The tables that the program writes to standard output: comma separated cells under a line of names.
 ghost use Prim.Native.Nat.{_<_, _≤_};
-ghost use Rattle.text.specs.Places.{Leads};
+ghost use Rattle.text_words.specs.Places.{Leads};
 use crate::put;
 use crate::put::Text;
 

@@ -15,7 +15,7 @@ use Rattle.params.specs.Parameters.{matchesSpec}
 use Rattle.params.specs.Checks.{isProbability, columnSum, meanCheck, entryCheck, columnCheck, arCheck, varianceCheck, parameterCheck}
 use Rattle.binding.specs.Binding.{readingCheck, seriesCheck, boundCheck, paramsCheck, admittedCheck}
 use Rattle.binding.specs.declared.Tables.the-variants.{One}
-use Rattle.series.proofs.Examples as variances
+use Rattle.em_sample_variance.proofs.Examples as variances
 use Rattle.fit.specs.Calls.{fitCheck, fitCall}
 use Rattle.promises.specs.Twelve.{alike, orderOne, constantFit, fitRefused}
 

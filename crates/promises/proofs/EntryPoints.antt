@@ -1,6 +1,6 @@
 -- Each entry point asks nothing and gives exactly its outcome: a line for each, in which the equation of its `ensures` is taken apart. Assumes nothing.
 use mathlib.Core.Path.{refl, ap}
-use Rattle.model.specs.Calls.{Outcome}
+use Rattle.calls.specs.Calls.{Outcome}
 use Rattle.fit.specs.Calls.{FitOutcome}
 use Rattle.number.proofs.pattern as number·pattern
 use Rattle.number.proofs.of_pattern as number·of_pattern
@@ -29,22 +29,22 @@ use Rattle.params.proofs.MsarParams.expected_durations as params·expected_dura
 use Rattle.stationary.proofs.stationary_shares as stationary·stationary_shares
 use Rattle.binding.proofs.bind as binding·bind
 use Rattle.binding.proofs.admit as binding·admit
-use Rattle.model.proofs.loglike as model·loglike
-use Rattle.model.proofs.filter as model·filter
-use Rattle.model.proofs.smooth as model·smooth
+use Rattle.calls.proofs.loglike as calls·loglike
+use Rattle.calls.proofs.filter as calls·filter
+use Rattle.calls.proofs.smooth as calls·smooth
 use Rattle.fit.proofs.fit as fit·fit
-use Rattle.markov.proofs.MarkovSwitchingAr.new as markov·new
-use Rattle.markov.proofs.MarkovSwitchingAr.loglike as markov·loglike
-use Rattle.markov.proofs.MarkovSwitchingAr.filter as markov·filter
-use Rattle.markov.proofs.MarkovSwitchingAr.smooth as markov·smooth
-use Rattle.markov.proofs.MarkovSwitchingAr.fit as markov·fit
-use Rattle.markov.proofs.check_of as markov·check_of
-use Rattle.markov.proofs.loglike_of as markov·loglike_of
-use Rattle.markov.proofs.filter_of as markov·filter_of
-use Rattle.markov.proofs.smooth_of as markov·smooth_of
-use Rattle.markov.proofs.fit_of as markov·fit_of
-use Rattle.decimal.proofs.read as decimal·read
-use Rattle.decimal.proofs.write as decimal·write
+use Rattle.record.proofs.MarkovSwitchingAr.new as record·new
+use Rattle.record.proofs.MarkovSwitchingAr.loglike as record·loglike
+use Rattle.record.proofs.MarkovSwitchingAr.filter as record·filter
+use Rattle.record.proofs.MarkovSwitchingAr.smooth as record·smooth
+use Rattle.record.proofs.MarkovSwitchingAr.fit as record·fit
+use Rattle.record.proofs.check_of as record·check_of
+use Rattle.record.proofs.loglike_of as record·loglike_of
+use Rattle.record.proofs.filter_of as record·filter_of
+use Rattle.record.proofs.smooth_of as record·smooth_of
+use Rattle.record.proofs.fit_of as record·fit_of
+use Rattle.text_decimal.proofs.read as text_decimal·read
+use Rattle.text_decimal.proofs.write as text_decimal·write
 use Rattle.c_interface.proofs.msar_loglike as c·loglike
 use Rattle.c_interface.proofs.msar_filter as c·filter
 use Rattle.c_interface.proofs.msar_smooth as c·smooth
@@ -73,22 +73,22 @@ entry-points M =
       msar-durations = entry-point (λ κs a r ws e. (refl, λ i. (tt, (tt, (e i .values, (e i .whole, (e i .real, tt))))))) c·durations.Met.met;
       msar-shares = entry-point (λ κs a r ws e. (refl, λ i. (tt, (tt, (e i .values, (e i .whole, (e i .real, tt))))))) c·shares.Met.met;
       msar-matches = entry-point (λ κs a r ws e. (e, refl)) c·matches.Met.met;
-      loglike = entry-point (λ κs a r ws e. (ap (λ (x : Outcome). x .answer) e, λ i. (tt, (tt, (tt, (e i .work, tt)))))) model·loglike.Met.met;
-      filter = entry-point (λ κs a r ws e. (ap (λ (x : Outcome). x .answer) e, λ i. (tt, (tt, (tt, (e i .work, (e i .filtered, tt))))))) model·filter.Met.met;
-      smooth = entry-point (λ κs a r ws e. (ap (λ (x : Outcome). x .answer) e, λ i. (tt, (tt, (tt, (e i .work, (e i .filtered, (e i .smoothed, tt)))))))) model·smooth.Met.met;
+      loglike = entry-point (λ κs a r ws e. (ap (λ (x : Outcome). x .answer) e, λ i. (tt, (tt, (tt, (e i .work, tt)))))) calls·loglike.Met.met;
+      filter = entry-point (λ κs a r ws e. (ap (λ (x : Outcome). x .answer) e, λ i. (tt, (tt, (tt, (e i .work, (e i .filtered, tt))))))) calls·filter.Met.met;
+      smooth = entry-point (λ κs a r ws e. (ap (λ (x : Outcome). x .answer) e, λ i. (tt, (tt, (tt, (e i .work, (e i .filtered, (e i .smoothed, tt)))))))) calls·smooth.Met.met;
       fit = entry-point (λ κs a r ws e. (ap (λ (x : FitOutcome). x .answer) e, λ i. (tt, (tt, (tt, (tt, (tt, (e i .work, (e i .smoothed, tt))))))))) fit·fit.Met.met;
       bind = entry-point (λ κs a r ws e. (e, refl)) binding·bind.Met.met;
       admit = entry-point (λ κs a r ws e. (e, refl)) binding·admit.Met.met;
-      record-new = entry-point (λ κs a r ws e. (λ i. record { check = e .0 i; model = record { series = e .1 i; spec = e .2 i } }, refl)) markov·new.Met.met;
-      record-loglike = entry-point (λ κs a r ws e. (ap (λ (x : Outcome). x .answer) e, λ i. (tt, (tt, (e i .work, tt))))) markov·loglike.Met.met;
-      record-filter = entry-point (λ κs a r ws e. (ap (λ (x : Outcome). x .answer) e, λ i. (tt, (tt, (e i .work, (e i .filtered, tt)))))) markov·filter.Met.met;
-      record-smooth = entry-point (λ κs a r ws e. (ap (λ (x : Outcome). x .answer) e, λ i. (tt, (tt, (e i .work, (e i .filtered, (e i .smoothed, tt))))))) markov·smooth.Met.met;
-      record-fit = entry-point (λ κs a r ws e. (ap (λ (x : FitOutcome). x .answer) e, λ i. (tt, (tt, (tt, (tt, (e i .work, (e i .smoothed, tt)))))))) markov·fit.Met.met;
-      check-of = entry-point (λ κs a r ws e. (e, refl)) markov·check_of.Met.met;
-      loglike-of = entry-point (λ κs a r ws e. (ap (λ (x : Outcome). x .answer) e, λ i. (tt, (tt, (tt, (e i .work, tt)))))) markov·loglike_of.Met.met;
-      filter-of = entry-point (λ κs a r ws e. (ap (λ (x : Outcome). x .answer) e, λ i. (tt, (tt, (tt, (e i .work, (e i .filtered, tt))))))) markov·filter_of.Met.met;
-      smooth-of = entry-point (λ κs a r ws e. (ap (λ (x : Outcome). x .answer) e, λ i. (tt, (tt, (tt, (e i .work, (e i .filtered, (e i .smoothed, tt)))))))) markov·smooth_of.Met.met;
-      fit-of = entry-point (λ κs a r ws e. (ap (λ (x : FitOutcome). x .answer) e, λ i. (tt, (tt, (tt, (tt, (tt, (e i .work, (e i .smoothed, tt))))))))) markov·fit_of.Met.met;
+      record-new = entry-point (λ κs a r ws e. (λ i. record { check = e .0 i; model = record { series = e .1 i; spec = e .2 i } }, refl)) record·new.Met.met;
+      record-loglike = entry-point (λ κs a r ws e. (ap (λ (x : Outcome). x .answer) e, λ i. (tt, (tt, (e i .work, tt))))) record·loglike.Met.met;
+      record-filter = entry-point (λ κs a r ws e. (ap (λ (x : Outcome). x .answer) e, λ i. (tt, (tt, (e i .work, (e i .filtered, tt)))))) record·filter.Met.met;
+      record-smooth = entry-point (λ κs a r ws e. (ap (λ (x : Outcome). x .answer) e, λ i. (tt, (tt, (e i .work, (e i .filtered, (e i .smoothed, tt))))))) record·smooth.Met.met;
+      record-fit = entry-point (λ κs a r ws e. (ap (λ (x : FitOutcome). x .answer) e, λ i. (tt, (tt, (tt, (tt, (e i .work, (e i .smoothed, tt)))))))) record·fit.Met.met;
+      check-of = entry-point (λ κs a r ws e. (e, refl)) record·check_of.Met.met;
+      loglike-of = entry-point (λ κs a r ws e. (ap (λ (x : Outcome). x .answer) e, λ i. (tt, (tt, (tt, (e i .work, tt)))))) record·loglike_of.Met.met;
+      filter-of = entry-point (λ κs a r ws e. (ap (λ (x : Outcome). x .answer) e, λ i. (tt, (tt, (tt, (e i .work, (e i .filtered, tt))))))) record·filter_of.Met.met;
+      smooth-of = entry-point (λ κs a r ws e. (ap (λ (x : Outcome). x .answer) e, λ i. (tt, (tt, (tt, (e i .work, (e i .filtered, (e i .smoothed, tt)))))))) record·smooth_of.Met.met;
+      fit-of = entry-point (λ κs a r ws e. (ap (λ (x : FitOutcome). x .answer) e, λ i. (tt, (tt, (tt, (tt, (tt, (e i .work, (e i .smoothed, tt))))))))) record·fit_of.Met.met;
       expanded-states = entry-point (λ κs a r ws e. (e, refl)) spec·expanded_states.Met.met;
       new = entry-point (λ κs a r ws e. (e, refl)) params·new.Met.met;
       check = entry-point (λ κs a r ws e. (e, refl)) params·check.Met.met;
@@ -118,6 +118,6 @@ entry-points M =
       is-finite = entry-point (λ κs a r ws e. (e, refl)) number·is_finite.Met.met;
       is-usable = entry-point (λ κs a r ws e. (e, refl)) number·is_usable.Met.met;
       max = entry-point (λ κs a r ws e. (e, refl)) number·max.Met.met;
-      read = entry-point (λ κs a r ws e. (e, refl)) decimal·read.Met.met;
-      write = entry-point (λ κs a r ws e. (e, refl)) decimal·write.Met.met;
+      read = entry-point (λ κs a r ws e. (e, refl)) text_decimal·read.Met.met;
+      write = entry-point (λ κs a r ws e. (e, refl)) text_decimal·write.Met.met;
     }

@@ -24,7 +24,7 @@ use Rattle.fit.specs.declared.Course.the-variants.{Going, Converged, Refused}
 use Rattle.fit.specs.Fit.{passesTo, fittedAfter, closed, endedAt, fittedOf}
 use Rattle.fit.specs.Calls.{fitCheck, FitOutcome, fitCalled, fitCall}
 use Rattle.fit.proofs.Going.{Kept, passes-kept}
-use Rattle.decimal.proofs.RoundTrip.{written-back}
+use Rattle.text_decimal.proofs.RoundTrip.{written-back}
 use Rattle.promises.specs.Meanings.{Meanings}
 use Rattle.promises.proofs.Tables.{parameters}
 

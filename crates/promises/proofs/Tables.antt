@@ -23,9 +23,9 @@ use Rattle.binding.specs.declared.Tables.{Tables}
 use Rattle.binding.specs.declared.Tables.the-variants.{One, Two}
 use Rattle.rows.specs.Rows.{probability, resultAt}
 use Rattle.filter.specs.Filter.{filteredRow, rowCount, startShares, runCheck, answerOf}
-use Rattle.model.specs.Calls.{Outcome, called, filteredTable, filterCall, smoothCall}
-use Rattle.model.proofs.Admitted.{is-admitted}
-use Rattle.model.proofs.Runs.{run-says}
+use Rattle.calls.specs.Calls.{Outcome, called, filteredTable, filterCall, smoothCall}
+use Rattle.calls.proofs.Admitted.{is-admitted}
+use Rattle.calls.proofs.Runs.{run-says}
 use Rattle.c_interface.specs.Interface.{spelled, left}
 use Rattle.promises.specs.Demand.{NotBelow, Demand3, Asked, AskedFromC, Demand}
 use Rattle.promises.proofs.Update.{near-same}

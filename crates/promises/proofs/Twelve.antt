@@ -27,7 +27,7 @@ use Rattle.stationary.proofs.Examples as shares
 use Rattle.rows.specs.Rows.{rowOf, probability}
 use Rattle.prediction.specs.Prediction.{firstTo, firstPrediction, laterPrediction}
 use Rattle.filter.specs.Filter.{predictedRow}
-use Rattle.series.proofs.Examples as variances
+use Rattle.em_sample_variance.proofs.Examples as variances
 use Rattle.fit.specs.Calls.{FitOutcome}
 use Rattle.rounding.specs.NearOne.{exactTotal, unity, allowed, NearOne}
 use Rattle.promises.specs.Twelve.{told, quarter, three-quarters, columns, alike, third, P3, P8, P9, Twelve}

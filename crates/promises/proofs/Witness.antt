@@ -33,7 +33,7 @@ use Rattle.rows.specs.Rows.{rowOf}
 use Rattle.density.specs.Density.{meanTo, normal, density}
 use Rattle.prediction.specs.Prediction.{firstTo, firstPrediction}
 use Rattle.filter.specs.Filter.{weight, total, predictedRow, likelihood, likelihoodCheck, runCheck, answerOf, startShares}
-use Rattle.model.specs.Calls.{filterCall}
+use Rattle.calls.specs.Calls.{filterCall}
 use Rattle.promises.specs.Demand.{NotBelow, Asked}
 use Rattle.promises.specs.Twelve.{quarter, three-quarters, alike}
 

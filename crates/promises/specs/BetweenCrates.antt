@@ -28,13 +28,13 @@ use Rattle.prediction.proofs.steps as prediction·steps
 use Rattle.prediction.proofs.later_row as prediction·later_row
 use Rattle.filter.proofs.refused as filter·refused
 use Rattle.filter.proofs.divide as filter·divide
-use Rattle.series.proofs.sample_variance as series·sample_variance
-use Rattle.ridge.proofs.solve_or_keep as ridge·solve_or_keep
-use Rattle.counts.proofs.new_transition as counts·new_transition
-use Rattle.means.proofs.new_means as means·new_means
-use Rattle.coefficients.proofs.new_ar as coefficients·new_ar
-use Rattle.variances.proofs.new_variances as variances·new_variances
-use Rattle.step.proofs.step as step·step
+use Rattle.em_sample_variance.proofs.sample_variance as em_sample_variance·sample_variance
+use Rattle.em_ridge.proofs.solve_or_keep as em_ridge·solve_or_keep
+use Rattle.em_counts.proofs.new_transition as em_counts·new_transition
+use Rattle.em_means.proofs.new_means as em_means·new_means
+use Rattle.em_coefficients.proofs.new_ar as em_coefficients·new_ar
+use Rattle.em_variances.proofs.new_variances as em_variances·new_variances
+use Rattle.em_step.proofs.step as em_step·step
 use Rattle.promises.specs.Contracts.{OneOutcome, OneOutcomeAsked, Contract}
 
 module _ (M : Type 1) (T : Ended) (c : Contract M T) where
@@ -69,10 +69,10 @@ pub record BetweenCrates (M : Type 1) : Type 2 where
   pub refused-answer : One M filter·refused.ended filter·refused.clauses
   pub divide : One M filter·divide.ended filter·divide.clauses
   -- the EM step and its parts
-  pub sample-variance : One M series·sample_variance.ended series·sample_variance.clauses
-  pub solve-or-keep : One M ridge·solve_or_keep.ended ridge·solve_or_keep.clauses
-  pub new-transition : One M counts·new_transition.ended counts·new_transition.clauses
-  pub new-means : One M means·new_means.ended means·new_means.clauses
-  pub new-ar : One M coefficients·new_ar.ended coefficients·new_ar.clauses
-  pub new-variances : One M variances·new_variances.ended variances·new_variances.clauses
-  pub step : One M step·step.ended step·step.clauses
+  pub sample-variance : One M em_sample_variance·sample_variance.ended em_sample_variance·sample_variance.clauses
+  pub solve-or-keep : One M em_ridge·solve_or_keep.ended em_ridge·solve_or_keep.clauses
+  pub new-transition : One M em_counts·new_transition.ended em_counts·new_transition.clauses
+  pub new-means : One M em_means·new_means.ended em_means·new_means.clauses
+  pub new-ar : One M em_coefficients·new_ar.ended em_coefficients·new_ar.clauses
+  pub new-variances : One M em_variances·new_variances.ended em_variances·new_variances.clauses
+  pub step : One M em_step·step.ended em_step·step.clauses

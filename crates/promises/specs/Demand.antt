@@ -16,7 +16,7 @@ use Rattle.spec.specs.declared.MsarSpec.{MsarSpec}
 use Rattle.params.specs.declared.MsarParams.{MsarParams}
 use Rattle.params.specs.Parameters.{k, p}
 use Rattle.filter.specs.Filter.{rowCount, startShares}
-use Rattle.model.specs.Calls.{Outcome, filterCall, smoothCall}
+use Rattle.calls.specs.Calls.{Outcome, filterCall, smoothCall}
 use Rattle.c_interface.specs.Interface.{specOf, paramsOf, Left, left}
 
 -- x is not below zero. A NaN is not below zero either

@@ -22,10 +22,10 @@ use Rattle.params.specs.Durations.{durationsOf}
 use Rattle.params.specs.Built.{builtOf}
 use Rattle.stationary.specs.Stationary.{sharesOf}
 use Rattle.binding.specs.Binding.{boundCheck, boundOf, admitted}
-use Rattle.model.specs.Calls.{loglikeCall, filterCall, smoothCall}
+use Rattle.calls.specs.Calls.{loglikeCall, filterCall, smoothCall}
 use Rattle.fit.specs.Calls.{fitCall}
-use Rattle.decimal.specs.Text.{readOf}
-use Rattle.decimal.specs.Decimals.{writtenOf}
+use Rattle.text_decimal.specs.Text.{readOf}
+use Rattle.text_decimal.specs.Decimals.{writtenOf}
 use Rattle.c_interface.specs.Interface.{specOf, paramsOf, spelled, windowsSpelled, durationsListed, sharesListed, left, fitLeft}
 use Rattle.number.proofs.pattern as number·pattern
 use Rattle.number.proofs.of_pattern as number·of_pattern
@@ -54,22 +54,22 @@ use Rattle.params.proofs.MsarParams.expected_durations as params·expected_dura
 use Rattle.stationary.proofs.stationary_shares as stationary·stationary_shares
 use Rattle.binding.proofs.bind as binding·bind
 use Rattle.binding.proofs.admit as binding·admit
-use Rattle.model.proofs.loglike as model·loglike
-use Rattle.model.proofs.filter as model·filter
-use Rattle.model.proofs.smooth as model·smooth
+use Rattle.calls.proofs.loglike as calls·loglike
+use Rattle.calls.proofs.filter as calls·filter
+use Rattle.calls.proofs.smooth as calls·smooth
 use Rattle.fit.proofs.fit as fit·fit
-use Rattle.markov.proofs.MarkovSwitchingAr.new as markov·new
-use Rattle.markov.proofs.MarkovSwitchingAr.loglike as markov·loglike
-use Rattle.markov.proofs.MarkovSwitchingAr.filter as markov·filter
-use Rattle.markov.proofs.MarkovSwitchingAr.smooth as markov·smooth
-use Rattle.markov.proofs.MarkovSwitchingAr.fit as markov·fit
-use Rattle.markov.proofs.check_of as markov·check_of
-use Rattle.markov.proofs.loglike_of as markov·loglike_of
-use Rattle.markov.proofs.filter_of as markov·filter_of
-use Rattle.markov.proofs.smooth_of as markov·smooth_of
-use Rattle.markov.proofs.fit_of as markov·fit_of
-use Rattle.decimal.proofs.read as decimal·read
-use Rattle.decimal.proofs.write as decimal·write
+use Rattle.record.proofs.MarkovSwitchingAr.new as record·new
+use Rattle.record.proofs.MarkovSwitchingAr.loglike as record·loglike
+use Rattle.record.proofs.MarkovSwitchingAr.filter as record·filter
+use Rattle.record.proofs.MarkovSwitchingAr.smooth as record·smooth
+use Rattle.record.proofs.MarkovSwitchingAr.fit as record·fit
+use Rattle.record.proofs.check_of as record·check_of
+use Rattle.record.proofs.loglike_of as record·loglike_of
+use Rattle.record.proofs.filter_of as record·filter_of
+use Rattle.record.proofs.smooth_of as record·smooth_of
+use Rattle.record.proofs.fit_of as record·fit_of
+use Rattle.text_decimal.proofs.read as text_decimal·read
+use Rattle.text_decimal.proofs.write as text_decimal·write
 use Rattle.c_interface.proofs.msar_loglike as c·loglike
 use Rattle.c_interface.proofs.msar_filter as c·filter
 use Rattle.c_interface.proofs.msar_smooth as c·smooth
@@ -447,25 +447,25 @@ pub record EntryPoints (M : Type 1) : Type 2 where
   pub msar-shares : EntryPoint M msarSharesType c·shares.clauses c·shares.Symbol.routine msarSharesOutcome
   pub msar-matches : EntryPoint M msarMatchesType c·matches.clauses c·matches.Symbol.routine msarMatchesOutcome
   -- the calls on a series
-  pub loglike : EntryPoint M loglikeType model·loglike.clauses model·loglike.Symbol.routine loglikeOutcome
-  pub filter : EntryPoint M filterType model·filter.clauses model·filter.Symbol.routine filterOutcome
-  pub smooth : EntryPoint M smoothType model·smooth.clauses model·smooth.Symbol.routine smoothOutcome
+  pub loglike : EntryPoint M loglikeType calls·loglike.clauses calls·loglike.Symbol.routine loglikeOutcome
+  pub filter : EntryPoint M filterType calls·filter.clauses calls·filter.Symbol.routine filterOutcome
+  pub smooth : EntryPoint M smoothType calls·smooth.clauses calls·smooth.Symbol.routine smoothOutcome
   pub fit : EntryPoint M fitType fit·fit.clauses fit·fit.Symbol.routine fitOutcome
   -- the checks of what a call is handed
   pub bind : EntryPoint M bindType binding·bind.clauses binding·bind.Symbol.routine bindOutcome
   pub admit : EntryPoint M admitType binding·admit.clauses binding·admit.Symbol.routine admitOutcome
   -- the record
-  pub record-new : EntryPoint M recordNewType markov·new.clauses markov·new.Symbol.routine recordNewOutcome
-  pub record-loglike : EntryPoint M recordLoglikeType markov·loglike.clauses markov·loglike.Symbol.routine recordLoglikeOutcome
-  pub record-filter : EntryPoint M recordFilterType markov·filter.clauses markov·filter.Symbol.routine recordFilterOutcome
-  pub record-smooth : EntryPoint M recordSmoothType markov·smooth.clauses markov·smooth.Symbol.routine recordSmoothOutcome
-  pub record-fit : EntryPoint M recordFitType markov·fit.clauses markov·fit.Symbol.routine recordFitOutcome
+  pub record-new : EntryPoint M recordNewType record·new.clauses record·new.Symbol.routine recordNewOutcome
+  pub record-loglike : EntryPoint M recordLoglikeType record·loglike.clauses record·loglike.Symbol.routine recordLoglikeOutcome
+  pub record-filter : EntryPoint M recordFilterType record·filter.clauses record·filter.Symbol.routine recordFilterOutcome
+  pub record-smooth : EntryPoint M recordSmoothType record·smooth.clauses record·smooth.Symbol.routine recordSmoothOutcome
+  pub record-fit : EntryPoint M recordFitType record·fit.clauses record·fit.Symbol.routine recordFitOutcome
   -- the record made and used once
-  pub check-of : EntryPoint M checkOfType markov·check_of.clauses markov·check_of.Symbol.routine checkOfOutcome
-  pub loglike-of : EntryPoint M loglikeType markov·loglike_of.clauses markov·loglike_of.Symbol.routine loglikeOutcome
-  pub filter-of : EntryPoint M filterType markov·filter_of.clauses markov·filter_of.Symbol.routine filterOutcome
-  pub smooth-of : EntryPoint M smoothType markov·smooth_of.clauses markov·smooth_of.Symbol.routine smoothOutcome
-  pub fit-of : EntryPoint M fitType markov·fit_of.clauses markov·fit_of.Symbol.routine fitOutcome
+  pub check-of : EntryPoint M checkOfType record·check_of.clauses record·check_of.Symbol.routine checkOfOutcome
+  pub loglike-of : EntryPoint M loglikeType record·loglike_of.clauses record·loglike_of.Symbol.routine loglikeOutcome
+  pub filter-of : EntryPoint M filterType record·filter_of.clauses record·filter_of.Symbol.routine filterOutcome
+  pub smooth-of : EntryPoint M smoothType record·smooth_of.clauses record·smooth_of.Symbol.routine smoothOutcome
+  pub fit-of : EntryPoint M fitType record·fit_of.clauses record·fit_of.Symbol.routine fitOutcome
   -- the spec, the parameters, the stationary shares
   pub expanded-states : EntryPoint M expandedStatesType spec·expanded_states.clauses spec·expanded_states.Symbol.routine expandedStatesOutcome
   pub new : EntryPoint M newType params·new.clauses params·new.Symbol.routine newOutcome
@@ -500,5 +500,5 @@ pub record EntryPoints (M : Type 1) : Type 2 where
   pub is-usable : EntryPoint M isUsableType number·is_usable.clauses number·is_usable.Symbol.routine isUsableOutcome
   pub max : EntryPoint M maxType number·max.clauses number·max.Symbol.routine maxOutcome
   -- decimals
-  pub read : EntryPoint M readType decimal·read.clauses decimal·read.Symbol.routine readOutcome
-  pub write : EntryPoint M writeType decimal·write.clauses decimal·write.Symbol.routine writeOutcome
+  pub read : EntryPoint M readType text_decimal·read.clauses text_decimal·read.Symbol.routine readOutcome
+  pub write : EntryPoint M writeType text_decimal·write.clauses text_decimal·write.Symbol.routine writeOutcome

@@ -26,7 +26,7 @@ use Rattle.stationary.specs.Stationary.{sharesOf}
 use Rattle.rows.specs.Rows.{rowOf, probability}
 use Rattle.prediction.specs.Prediction.{laterPrediction}
 use Rattle.filter.specs.Filter.{predictedRow, startShares}
-use Rattle.series.specs.Series.{sampleVariance}
+use Rattle.em_sample_variance.specs.Series.{sampleVariance}
 use Rattle.fit.specs.Calls.{FitOutcome, fitCall}
 use Rattle.rounding.specs.NearOne.{exactTotal, allowed, NearOne}
 

@@ -22,10 +22,10 @@ use Rattle.binding.proofs.Bound as binding·Bound
 use Rattle.binding.proofs.Tables as binding·Tables
 use Rattle.filter.proofs.Answer as filter·Answer
 use Rattle.fit.proofs.Fitted as fit·Fitted
-use Rattle.markov.proofs.MarkovSwitchingAr as markov·MarkovSwitchingAr
-use Rattle.markov.proofs.Made as markov·Made
-use Rattle.decimal.proofs.Parsed as decimal·Parsed
-use Rattle.decimal.proofs.Written as decimal·Written
+use Rattle.record.proofs.MarkovSwitchingAr as markov·MarkovSwitchingAr
+use Rattle.record.proofs.Made as markov·Made
+use Rattle.text_decimal.proofs.Parsed as decimal·Parsed
+use Rattle.text_decimal.proofs.Written as decimal·Written
 
 -- a function with n lifetimes, these parameters and this result
 abbrev pub fn : (n : ℕ) → List (Slot n) → Slot n → Ended

@@ -2,3 +2,7 @@
 pub mod Places
 -- rows and probabilities
 pub mod Rows
+-- what stands at a place of the smoothed table
+pub mod SmoothedTable
+-- arrays of sums over places, one place more
+pub mod Cells

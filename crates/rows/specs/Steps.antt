@@ -1,10 +1,11 @@
 -- What the steps of the code give, by window number: the windows with label i now are i, i + k, i + 2·k, .. The proofs show that these sums are the
--- probabilities of the labels.
+-- probabilities of the labels. And what the steps of the EM step keep: arrays of sums over the places of the smoothed table.
 use Prim.Native.Nat.{ℕ, _+_, _*_, _/_, _%_}
+use mathlib.Core.Bool.{Bool}
 use mathlib.Core.List.{List}
 use lib.ListN.{drop}
 use lib.Ieee.{Float}
-use Rattle.number.specs.Sums.{sumUp}
+use Rattle.number.specs.Sums.{sumUp, sumWhere}
 use Rattle.number.specs.Table.{_!_}
 use Rattle.rows.specs.Memory.{filteredFrom}
 
@@ -15,3 +16,7 @@ labelSum k power row i = sumUp (λ j. row ! (i + j * k)) power
 -- place e of the results of the rows that stand in work memory
 unfoldable pub labelSumAt : ℕ → ℕ → ℕ → List Float → ℕ → Float
 labelSumAt k power m work e = labelSum k power (drop (filteredFrom m (e / k)) work) (e % k)
+
+-- cell c before place e: the sum of f c over those places at which the test t c holds
+unfoldable pub cellAt : (ℕ → ℕ → Bool) → (ℕ → ℕ → Float) → ℕ → ℕ → Float
+cellAt t f e c = sumWhere (t c) (f c) e

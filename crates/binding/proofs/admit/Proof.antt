@@ -26,20 +26,8 @@ rest c =
     rest-is (c .before .before .before .before .before .before .before .before .before .before .before .before .args .s) (c .before .before .before .before .before .before .before .before .before .before .before .before .args .y .now) (c .before .before .before .before .before .before .before .before .before .before .before .before .args .q) (c .before .before .before .before .before .before .before .before .before .before .before .before .args .work) (c .before .before .before .before .before .before .before .before .before .before .before .before .args .tables) (rows-are _ _ e d) (windows-are _ _ e d) (c .before .before .before .before .before .before .memory .ensures) (c .before .before .before .tables-memory .ensures)
     (c .before .before .parameters .ensures) (c .before .first-of .ensures) (c .first-of2 .ensures)
 
-bind-requires : tie.Need-bind-requires
-bind-requires c κs = search needs
-
-enum-known-check : tie.Need-enum-known-check
-enum-known-check c = search needs
-
-refused-requires : tie.Need-refused-requires
-refused-requires c κs = search needs
-
 returns : tie.Need-returns
 returns c = c .refused .ensures (c .before .before .before .before .before .before .args .s) (c .before .before .before .before .before .before .args .y .now) ∙ admit-bound (c .before .before .before .before .before .before .args .s) (c .before .before .before .before .before .before .args .y .now) (c .before .before .before .before .before .before .args .q) (c .before .before .before .before .before .before .args .work) (c .before .before .before .before .before .before .args .tables) (check-of _ _ (c .before .before .before .before .bind .ensures) (c .before .before .check .given .1))
-
-enum-told : tie.Need-enum-told
-enum-told c = search needs
 
 mul-memory : tie.Need-mul-memory
 mul-memory c = omega (arith, work-small _ _ (c .before .before .before .bind .ensures) (bound (c .before)))
@@ -47,32 +35,8 @@ mul-memory c = omega (arith, work-small _ _ (c .before .before .before .bind .en
 mul-memory-2 : tie.Need-mul-memory-2
 mul-memory-2 c = omega (arith, work-small _ _ (c .before .before .before .bind .ensures) (bound (c .before)))
 
-memory-requires : tie.Need-memory-requires
-memory-requires c κs = search needs
-
 mul-tables-memory : tie.Need-mul-tables-memory
 mul-tables-memory c = omega (arith, table-small _ _ (c .before .before .before .before .before .before .bind .ensures) (bound (c .before .before .before .before)))
-
-tables-memory-requires : tie.Need-tables-memory-requires
-tables-memory-requires c κs = search needs
-
-parameters-requires : tie.Need-parameters-requires
-parameters-requires c κs = search needs
-
-first-of-requires : tie.Need-first-of-requires
-first-of-requires c κs = search needs
-
-first-of-requires-2 : tie.Need-first-of-requires-2
-first-of-requires-2 c κs = search needs
-
-enum-known-r : tie.Need-enum-known-r
-enum-known-r c = search needs
-
-refused-requires-2 : tie.Need-refused-requires-2
-refused-requires-2 c κs = search needs
-
-enum-told-2 : tie.Need-enum-told-2
-enum-told-2 c = search needs
 
 returns-2 : tie.Need-returns-2
 returns-2 c = c .refused2 .ensures (c .before .before .before .before .before .before .before .before .before .before .before .before .before .before .before .before .args .s) (c .before .before .before .before .before .before .before .before .before .before .before .before .before .before .before .before .args .y .now) ∙ admit-rest (c .before .before .before .before .before .before .before .before .before .before .before .before .before .before .before .before .args .s) (c .before .before .before .before .before .before .before .before .before .before .before .before .before .before .before .before .args .y .now) (c .before .before .before .before .before .before .before .before .before .before .before .before .before .before .before .before .args .q) (c .before .before .before .before .before .before .before .before .before .before .before .before .before .before .before .before .args .work) (c .before .before .before .before .before .before .before .before .before .before .before .before .before .before .before .before .args .tables) (bound (c .before .before .before .before .before .before .before .before .before .before .before .before)) (sym (rest (c .before .before .before .before)) ∙ c .before .before .r .given .1)
@@ -84,21 +48,21 @@ pub admit-spec : {M : Type 1} → statement M
 admit-spec =
     tie.close
     (tie.spec
-    bind-requires
-    enum-known-check
-    refused-requires
+    (λ c κs. search needs)
+    (λ c. search needs)
+    (λ c κs. search needs)
     returns
-    enum-told
+    (λ c. search needs)
     mul-memory
     mul-memory-2
-    memory-requires
+    (λ c κs. search needs)
     mul-tables-memory
-    tables-memory-requires
-    parameters-requires
-    first-of-requires
-    first-of-requires-2
-    enum-known-r
-    refused-requires-2
-    enum-told-2
+    (λ c κs. search needs)
+    (λ c κs. search needs)
+    (λ c κs. search needs)
+    (λ c κs. search needs)
+    (λ c. search needs)
+    (λ c κs. search needs)
+    (λ c. search needs)
     returns-2
     returns-3)

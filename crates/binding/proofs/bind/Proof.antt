@@ -24,33 +24,12 @@ passed-check c = bound-check _ _ (counted-m (c .before .before .before .before) 
 bound : (c : tie.After-enum-told) → Fits (c .before .before .before .before .before .before .before .before .args .s) (c .before .before .before .before .before .before .before .before .args .y .now)
 bound c = fits _ _ (passed-check c)
 
-expanded-states-requires : tie.Need-expanded-states-requires
-expanded-states-requires c κs = search needs
-
-enum-known-r : tie.Need-enum-known-r
-enum-known-r c = search needs
-
-refused-requires : tie.Need-refused-requires
-refused-requires c κs = search needs
-
 returns : tie.Need-returns
 unfolding windowCount
 returns c = c .refused .ensures (c .before .before .before .before .before .before .args .s) (c .before .before .before .before .before .before .args .y .now) ∙ bound-spec (c .before .before .before .before .before .before .args .s) (c .before .before .before .before .before .before .args .y .now) (count-refused _ (c .before .before .before .before .before .before .args .s .«k_regimes» ^ suc (c .before .before .before .before .before .before .args .s .order)) (sym (c .before .before .before .before .expanded-states .ensures) ∙ c .before .before .r .given .1))
 
-enum-known-m : tie.Need-enum-known-m
-enum-known-m c = search needs
-
 series-requires : tie.Need-series-requires
 series-requires c κs = let s = shape-of _ _ (counted-m (c .before) .0) in order-at-most-7 _ _ (s .low) (s .few)
-
-enum-known-r-2 : tie.Need-enum-known-r-2
-enum-known-r-2 c = search needs
-
-refused-requires-2 : tie.Need-refused-requires-2
-refused-requires-2 c κs = search needs
-
-enum-told : tie.Need-enum-told
-enum-told c = search needs
 
 sub-t13 : tie.Need-sub-t13
 sub-t13 c = omega (arith, bound (c .before) .longer)
@@ -71,15 +50,15 @@ pub bind-spec : {M : Type 1} → statement M
 bind-spec =
     tie.close
     (tie.spec
-    expanded-states-requires
-    enum-known-r
-    refused-requires
+    (λ c κs. search needs)
+    (λ c. search needs)
+    (λ c κs. search needs)
     returns
-    enum-known-m
+    (λ c. search needs)
     series-requires
-    enum-known-r-2
-    refused-requires-2
-    enum-told
+    (λ c. search needs)
+    (λ c κs. search needs)
+    (λ c. search needs)
     sub-t13
     div-t14
     returns-2

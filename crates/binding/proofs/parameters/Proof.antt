@@ -7,18 +7,9 @@ use Rattle.binding.proofs.shape.Reads as shape-reads
 use Rattle.params.proofs.MsarParams.check.Reads as check-reads
 use Rattle.refusal.proofs.first_of.Reads as first-of-reads
 
-check-requires : tie.Need-check-requires
-check-requires c κs = search needs
-
-shape-requires : tie.Need-shape-requires
-shape-requires c κs = search needs
-
-first-of-requires : tie.Need-first-of-requires
-first-of-requires c κs = search needs
-
 returns : tie.Need-returns
 unfolding paramsCheck
 returns c = rw (← c .before .before .check .ensures, ← c .before .shape .ensures) (c .first-of .ensures)
 
 pub parameters-spec : {M : Type 1} → statement M
-parameters-spec = tie.close (tie.spec check-requires shape-requires first-of-requires returns)
+parameters-spec = tie.close (tie.spec (λ c κs. search needs) (λ c κs. search needs) (λ c κs. search needs) returns)

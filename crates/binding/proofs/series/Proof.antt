@@ -6,9 +6,6 @@ use Rattle.binding.proofs.series.Statement.{statement}
 use Rattle.binding.proofs.series.Tie as tie
 use Rattle.binding.proofs.readings.Reads as readings-reads
 
-add-t5 : tie.Need-add-t5
-add-t5 c = search needs
-
 returns : tie.Need-returns
 unfolding seriesCheck
 returns c = rw (le-leb _ _ (c .if1 .taken))
@@ -17,12 +14,9 @@ returns-2 : tie.Need-returns-2
 unfolding seriesCheck
 returns-2 c = rw (lt-leb _ _ (c .before .if1 .left), lt-ltb _ _ (c .if2 .taken))
 
-readings-requires : tie.Need-readings-requires
-readings-requires c κs = search needs
-
 returns-3 : tie.Need-returns-3
 unfolding seriesCheck
 returns-3 c = rw (lt-leb _ _ (c .before .before .if1 .left), le-ltb _ _ (c .before .if2 .left)) (c .readings .ensures)
 
 pub series-spec : {M : Type 1} → statement M
-series-spec = tie.close (tie.spec add-t5 returns returns-2 readings-requires returns-3)
+series-spec = tie.close (tie.spec (λ c. search needs) returns returns-2 (λ c κs. search needs) returns-3)

@@ -4,9 +4,6 @@ use Rattle.binding.proofs.shape.Statement.{statement}
 use Rattle.binding.proofs.shape.Tie as tie
 use Rattle.params.proofs.MsarParams.matches_spec.Reads as matches-spec-reads
 
-matches-spec-requires : tie.Need-matches-spec-requires
-matches-spec-requires c κs = search needs
-
 returns : tie.Need-returns
 returns c = rw (← c .before .matches-spec .ensures, c .if1 .taken)
 
@@ -14,4 +11,4 @@ returns-2 : tie.Need-returns-2
 returns-2 c = rw (← c .before .matches-spec .ensures, c .if1 .left)
 
 pub shape-spec : {M : Type 1} → statement M
-shape-spec = tie.close (tie.spec matches-spec-requires returns returns-2)
+shape-spec = tie.close (tie.spec (λ c κs. search needs) returns returns-2)

@@ -3,24 +3,6 @@ use borrow.Author.Needs.{needs}
 use Rattle.c_interface.proofs.msar_smooth.Statement.{statement}
 use Rattle.c_interface.proofs.msar_smooth.Tie as tie
 
-params-of-requires : tie.Need-params-of-requires
-params-of-requires c κs = search needs
-
-smooth-requires : tie.Need-smooth-requires
-smooth-requires c κs = search needs
-
-spell-requires : tie.Need-spell-requires
-spell-requires c κs = search needs
-
-same-length : tie.Need-same-length
-same-length c = search needs
-
-same-length-2 : tie.Need-same-length-2
-same-length-2 c = search needs
-
-same-length-3 : tie.Need-same-length-3
-same-length-3 c = search needs
-
 returns : tie.Need-returns
 returns c = leaves (rw (c .before .before .before .before .before .before .before .before .before .before .before .before .before .params-of .ensures) at (c .before .before .before .before .before .before .before .before .before .smooth .ensures)) (c .spell .ensures)
 
@@ -28,10 +10,10 @@ pub msar-smooth-spec : {M : Type 1} → statement M
 msar-smooth-spec =
     tie.close
     (tie.spec
-    params-of-requires
-    smooth-requires
-    spell-requires
-    same-length
-    same-length-2
-    same-length-3
+    (λ c κs. search needs)
+    (λ c κs. search needs)
+    (λ c κs. search needs)
+    (λ c. search needs)
+    (λ c. search needs)
+    (λ c. search needs)
     returns)

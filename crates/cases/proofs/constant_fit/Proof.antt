@@ -9,21 +9,6 @@ use Rattle.cases.proofs.Values.{spec, constant, p9}
 use Rattle.cases.proofs.constant_fit.Statement.{statement}
 use Rattle.cases.proofs.constant_fit.Tie as tie
 
-two-requires : tie.Need-two-requires
-two-requires c κs = search needs
-
-slice-aggregate-fit : tie.Need-slice-aggregate-fit
-slice-aggregate-fit c = search needs
-
-slice-aggregate-fit-2 : tie.Need-slice-aggregate-fit-2
-slice-aggregate-fit-2 c = search needs
-
-slice-aggregate-fit-3 : tie.Need-slice-aggregate-fit-3
-slice-aggregate-fit-3 c = search needs
-
-fit-requires : tie.Need-fit-requires
-fit-requires c κs = search needs
-
 returns : tie.Need-returns
 returns c =
     ap (λ (x : FitOutcome). x .answer .check)
@@ -35,9 +20,9 @@ pub constant-fit-spec : {M : Type 1} → statement M
 constant-fit-spec =
     tie.close
     (tie.spec
-    two-requires
-    slice-aggregate-fit
-    slice-aggregate-fit-2
-    slice-aggregate-fit-3
-    fit-requires
+    (λ c κs. search needs)
+    (λ c. search needs)
+    (λ c. search needs)
+    (λ c. search needs)
+    (λ c κs. search needs)
     returns)

@@ -4,15 +4,6 @@ use borrow.Author.Needs.{needs}
 use Rattle.cases.proofs.counts.Statement.{statement}
 use Rattle.cases.proofs.counts.Tie as tie
 
-windows-of-requires : tie.Need-windows-of-requires
-windows-of-requires c κs = search needs
-
-enum-known-count : tie.Need-enum-known-count
-enum-known-count c = search needs
-
-enum-told : tie.Need-enum-told
-enum-told c = search needs
-
 returns : tie.Need-returns
 returns c = rw (sym (c .before .before .before .windows-of .ensures) ∙ c .before .count .given .1)
 
@@ -20,4 +11,4 @@ returns-2 : tie.Need-returns-2
 returns-2 c = rw (sym (c .before .before .windows-of .ensures) ∙ c .enum-told .given .1)
 
 pub counts-spec : {M : Type 1} → statement M
-counts-spec = tie.close (tie.spec windows-of-requires enum-known-count enum-told returns returns-2)
+counts-spec = tie.close (tie.spec (λ c κs. search needs) (λ c. search needs) (λ c. search needs) returns returns-2)

@@ -8,14 +8,8 @@ use Rattle.cases.proofs.Values.{p9-told}
 use Rattle.cases.proofs.fit_refused.Statement.{statement}
 use Rattle.cases.proofs.fit_refused.Tie as tie
 
-constant-fit-requires : tie.Need-constant-fit-requires
-constant-fit-requires c κs = search needs
-
-failed-with-requires : tie.Need-failed-with-requires
-failed-with-requires c κs = search needs
-
 returns : tie.Need-returns
 returns c = c .failed-with .ensures ∙ ap (λ (x : Check). failsWith x 25 0 zero⁺) (c .before .constant-fit .ensures) ∙ p9-told
 
 pub fit-refused-spec : {M : Type 1} → statement M
-fit-refused-spec = tie.close (tie.spec constant-fit-requires failed-with-requires returns)
+fit-refused-spec = tie.close (tie.spec (λ c κs. search needs) (λ c κs. search needs) returns)

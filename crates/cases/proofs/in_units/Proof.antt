@@ -6,12 +6,6 @@ use Rattle.cases.specs.Cases.{unitsOf}
 use Rattle.cases.proofs.in_units.Statement.{statement}
 use Rattle.cases.proofs.in_units.Tie as tie
 
-pattern-requires : tie.Need-pattern-requires
-pattern-requires c κs = search needs
-
-add-result : tie.Need-add-result
-add-result c = search needs
-
 returns : tie.Need-returns
 unfolding unitsOf
 returns c = (rw (← c .before .pattern .ensures, eq-eqb _ _ (c .if1 .taken)), omega arith)
@@ -21,4 +15,4 @@ unfolding unitsOf
 returns-2 c = (rw (← c .before .pattern .ensures, ne-eqb _ _ (c .if1 .left)), omega arith)
 
 pub in-units-spec : {M : Type 1} → statement M
-in-units-spec = tie.close (tie.spec pattern-requires add-result returns returns-2)
+in-units-spec = tie.close (tie.spec (λ c κs. search needs) (λ c. search needs) returns returns-2)

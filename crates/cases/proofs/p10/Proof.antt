@@ -8,17 +8,8 @@ use Rattle.cases.proofs.Values.{p10}
 use Rattle.cases.proofs.p10.Statement.{statement}
 use Rattle.cases.proofs.p10.Tie as tie
 
-two-requires : tie.Need-two-requires
-two-requires c κs = search needs
-
-check-requires : tie.Need-check-requires
-check-requires c κs = search needs
-
-failed-requires : tie.Need-failed-requires
-failed-requires c κs = search needs
-
 returns : tie.Need-returns
 returns c = c .failed .ensures ∙ ap (λ (x : Check). fails x 14 1) (c .before .check .ensures ∙ ap parameterCheck (c .before .before .two .ensures)) ∙ p10
 
 pub p10-spec : {M : Type 1} → statement M
-p10-spec = tie.close (tie.spec two-requires check-requires failed-requires returns)
+p10-spec = tie.close (tie.spec (λ c κs. search needs) (λ c κs. search needs) (λ c κs. search needs) returns)

@@ -7,20 +7,8 @@ use Rattle.cases.proofs.Values.{both, is-same, p12-four, p12-two}
 use Rattle.cases.proofs.p12.Statement.{statement}
 use Rattle.cases.proofs.p12.Tie as tie
 
-root-requires : tie.Need-root-requires
-root-requires c κs = search needs
-
-is-requires : tie.Need-is-requires
-is-requires c κs = search needs
-
-root-requires-2 : tie.Need-root-requires-2
-root-requires-2 c κs = search needs
-
-pattern-requires : tie.Need-pattern-requires
-pattern-requires c κs = search needs
-
 returns : tie.Need-returns
 returns c = both (is-same (c .before .before .is .ensures) (c .before .before .before .root .ensures .0 ∙ p12-four)) (eq-eqb _ _ (c .pattern .ensures ∙ ap patternOf (c .before .root2 .ensures .0) ∙ p12-two))
 
 pub p12-spec : {M : Type 1} → statement M
-p12-spec = tie.close (tie.spec root-requires is-requires root-requires-2 pattern-requires returns)
+p12-spec = tie.close (tie.spec (λ c κs. search needs) (λ c κs. search needs) (λ c κs. search needs) (λ c κs. search needs) returns)

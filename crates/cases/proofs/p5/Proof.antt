@@ -8,41 +8,8 @@ use Rattle.cases.proofs.Values.{both, is-same, order-1, p5, p5-row, pre
 use Rattle.cases.proofs.p5.Statement.{statement}
 use Rattle.cases.proofs.p5.Tie as tie
 
-two-requires : tie.Need-two-requires
-two-requires c κs = search needs
-
-stationary-shares-requires : tie.Need-stationary-shares-requires
-stationary-shares-requires c κs = search needs
-
-powers-requires : tie.Need-powers-requires
-powers-requires c κs = search needs
-
 first-row-requires : tie.Need-first-row-requires
 first-row-requires c κs = rw (c .before .before .before .before .before .before .two .ensures) (order-1, (c .before .before .before .powers .ensures, refl, refl))
-
-array-read-is : tie.Need-array-read-is
-array-read-is c = search needs
-
-is-requires : tie.Need-is-requires
-is-requires c κs = search needs
-
-array-read-is-2 : tie.Need-array-read-is-2
-array-read-is-2 c = search needs
-
-is-requires-2 : tie.Need-is-requires-2
-is-requires-2 c κs = search needs
-
-array-read-is-3 : tie.Need-array-read-is-3
-array-read-is-3 c = search needs
-
-is-requires-3 : tie.Need-is-requires-3
-is-requires-3 c κs = search needs
-
-array-read-is-4 : tie.Need-array-read-is-4
-array-read-is-4 c = search needs
-
-is-requires-4 : tie.Need-is-requires-4
-is-requires-4 c κs = search needs
 
 returns : tie.Need-returns
 returns c =
@@ -56,16 +23,16 @@ pub p5-spec : {M : Type 1} → statement M
 p5-spec =
     tie.close
     (tie.spec
-    two-requires
-    stationary-shares-requires
-    powers-requires
+    (λ c κs. search needs)
+    (λ c κs. search needs)
+    (λ c κs. search needs)
     first-row-requires
-    array-read-is
-    is-requires
-    array-read-is-2
-    is-requires-2
-    array-read-is-3
-    is-requires-3
-    array-read-is-4
-    is-requires-4
+    (λ c. search needs)
+    (λ c κs. search needs)
+    (λ c. search needs)
+    (λ c κs. search needs)
+    (λ c. search needs)
+    (λ c κs. search needs)
+    (λ c. search needs)
+    (λ c κs. search needs)
     returns)

@@ -22,21 +22,6 @@ abbrev μ-loop : tie.MeasureT-loop
 loop-holds : tie.Need-loop-holds Inv-loop μ-loop
 loop-holds c = (omega arith, fillAt-none 0 _ _)
 
-deviation-requires : tie.Need-deviation-requires Inv-loop μ-loop
-deviation-requires c κs = search needs
-
-mul-row : tie.Need-mul-row Inv-loop μ-loop
-mul-row c = search needs
-
-array-write-row : tie.Need-array-write-row Inv-loop μ-loop
-array-write-row c = search needs
-
-add-s : tie.Need-add-s Inv-loop μ-loop
-add-s c = search needs
-
-loop-less : tie.Need-loop-less Inv-loop μ-loop
-loop-less c = search needs
-
 loop-again : tie.Need-loop-again Inv-loop μ-loop
 loop-again c = (omega arith, fill-more _ _ _ (c .before .before .loop .inv .1) (c .deviation .ensures) (omega arith))
 
@@ -59,11 +44,11 @@ deviations-spec =
     Inv-loop
     μ-loop
     loop-holds
-    deviation-requires
-    mul-row
-    array-write-row
-    add-s
-    loop-less
+    (λ c κs. search needs)
+    (λ c. search needs)
+    (λ c. search needs)
+    (λ c. search needs)
+    (λ c. search needs)
     loop-again
     repeat-requires
     returns)

@@ -15,9 +15,6 @@ abbrev μ-loop : tie.MeasureT-loop
 loop-holds : tie.Need-loop-holds Inv-loop μ-loop
 loop-holds c = (omega arith, lagged-none _ _ _ _ _ _ _)
 
-sub-s : tie.Need-sub-s Inv-loop μ-loop
-sub-s c = search needs
-
 mul-lag-block : tie.Need-mul-lag-block Inv-loop μ-loop
 mul-lag-block c = omega arith
 
@@ -39,9 +36,6 @@ lag-block-requires c κs =
     let pre = at .before .pre in
     (pre .0, pre .1, pre .2, ends (c .before .before), block-apart _ _, lagged-long _ _ _ _ _ _ _ _ (at .loop .inv .1) (at .loop .inv .0) (omega arith) ∙ pre .4)
 
-loop-less : tie.Need-loop-less Inv-loop μ-loop
-loop-less c = search needs
-
 loop-again : tie.Need-loop-again Inv-loop μ-loop
 loop-again c =
     let at = c .before .before .before .before in
@@ -62,11 +56,11 @@ lag-spec =
     Inv-loop
     μ-loop
     loop-holds
-    sub-s
+    (λ c. search needs)
     mul-lag-block
     element-copy-out-lag-block
     mul-lag-block-2
     lag-block-requires
-    loop-less
+    (λ c. search needs)
     loop-again
     returns)

@@ -20,39 +20,6 @@ abbrev μ-loop : tie.MeasureT-loop
 loop-holds : tie.Need-loop-holds Inv-loop μ-loop
 loop-holds c = (omega arith, sym (zero-mod _), omega arith, fillAt-none _ _ _)
 
-mul-row : tie.Need-mul-row Inv-loop μ-loop
-mul-row c = search needs
-
-element-copy-out-row : tie.Need-element-copy-out-row Inv-loop μ-loop
-element-copy-out-row c = search needs
-
-add-row : tie.Need-add-row Inv-loop μ-loop
-add-row c = search needs
-
-mul-row-2 : tie.Need-mul-row-2 Inv-loop μ-loop
-mul-row-2 c = search needs
-
-element-copy-out-row-2 : tie.Need-element-copy-out-row-2 Inv-loop μ-loop
-element-copy-out-row-2 c = search needs
-
-add-row-2 : tie.Need-add-row-2 Inv-loop μ-loop
-add-row-2 c = search needs
-
-mul-row-3 : tie.Need-mul-row-3 Inv-loop μ-loop
-mul-row-3 c = search needs
-
-element-write-row : tie.Need-element-write-row Inv-loop μ-loop
-element-write-row c = search needs
-
-next-label-requires : tie.Need-next-label-requires Inv-loop μ-loop
-next-label-requires c κs = search needs
-
-add-b : tie.Need-add-b Inv-loop μ-loop
-add-b c = search needs
-
-loop-less : tie.Need-loop-less Inv-loop μ-loop
-loop-less c = search needs
-
 loop-again : tie.Need-loop-again Inv-loop μ-loop
 loop-again c =
     let inv = c .before .before .before .before .loop .inv in
@@ -73,16 +40,16 @@ lag-block-spec =
     Inv-loop
     μ-loop
     loop-holds
-    mul-row
-    element-copy-out-row
-    add-row
-    mul-row-2
-    element-copy-out-row-2
-    add-row-2
-    mul-row-3
-    element-write-row
-    next-label-requires
-    add-b
-    loop-less
+    (λ c. search needs)
+    (λ c. search needs)
+    (λ c. search needs)
+    (λ c. search needs)
+    (λ c. search needs)
+    (λ c. search needs)
+    (λ c. search needs)
+    (λ c. search needs)
+    (λ c κs. search needs)
+    (λ c. search needs)
+    (λ c. search needs)
     loop-again
     returns)

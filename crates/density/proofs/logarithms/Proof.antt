@@ -21,27 +21,6 @@ abbrev μ-loop : tie.MeasureT-loop
 loop-holds : tie.Need-loop-holds Inv-loop μ-loop
 loop-holds c = (omega arith, fillAt-none 0 _ _)
 
-mul-log : tie.Need-mul-log Inv-loop μ-loop
-mul-log c = search needs
-
-element-copy-out-log : tie.Need-element-copy-out-log Inv-loop μ-loop
-element-copy-out-log c = search needs
-
-log-requires : tie.Need-log-requires Inv-loop μ-loop
-log-requires c κs = search needs
-
-mul-row : tie.Need-mul-row Inv-loop μ-loop
-mul-row c = search needs
-
-array-write-row : tie.Need-array-write-row Inv-loop μ-loop
-array-write-row c = search needs
-
-add-s : tie.Need-add-s Inv-loop μ-loop
-add-s c = search needs
-
-loop-less : tie.Need-loop-less Inv-loop μ-loop
-loop-less c = search needs
-
 loop-again : tie.Need-loop-again Inv-loop μ-loop
 loop-again c = (omega arith, fill-more _ _ _ (c .before .before .before .loop .inv .1) (c .log .ensures) (omega arith))
 
@@ -64,13 +43,13 @@ logarithms-spec =
     Inv-loop
     μ-loop
     loop-holds
-    mul-log
-    element-copy-out-log
-    log-requires
-    mul-row
-    array-write-row
-    add-s
-    loop-less
+    (λ c. search needs)
+    (λ c. search needs)
+    (λ c κs. search needs)
+    (λ c. search needs)
+    (λ c. search needs)
+    (λ c. search needs)
+    (λ c. search needs)
     loop-again
     repeat-requires
     returns)

@@ -20,26 +20,11 @@ Inv-loop means phis k order y row₀ at step₀ l₀ row step l =
 abbrev μ-loop : tie.MeasureT-loop
 μ-loop means phis k order y row₀ at step₀ l₀ row step l = order - l
 
-start-requires : tie.Need-start-requires Inv-loop μ-loop
-start-requires c κs = search needs
-
 loop-holds : tie.Need-loop-holds Inv-loop μ-loop
 loop-holds c =
     let pre = c .before .before .before .pre in
     let long = fillAt-long 0 _ _ _ (c .start .ensures) (omega (arith, pre .0 .high)) ∙ pre .1 .2 in
     (omega arith, step-first _, long, λ q parts. row-start parts _ _ (omega (arith, pre .0 .low)) _ (c .start .ensures) (omega (arith, pre .0 .high, long)))
-
-sub-lag-at : tie.Need-sub-lag-at Inv-loop μ-loop
-sub-lag-at c = search needs
-
-sub-lag-at-2 : tie.Need-sub-lag-at-2 Inv-loop μ-loop
-sub-lag-at-2 c = search needs
-
-mul-lag : tie.Need-mul-lag Inv-loop μ-loop
-mul-lag c = search needs
-
-shared-slice-read-lag : tie.Need-shared-slice-read-lag Inv-loop μ-loop
-shared-slice-read-lag c = search needs
 
 -- the windows of one label more fit the row, and the coefficients of a lag theirs
 fits : (c : tie.In-loop Inv-loop μ-loop) → c .before .before .before .before .before .args .k * c .before .loop .step ≤ 256
@@ -64,12 +49,6 @@ mul-step : tie.Need-mul-step Inv-loop μ-loop
 mul-step c =
     let at = c .before .before .before .before in
     omega (arith, fits (c .before .before .before), mul-comm (at .loop .step) (at .before .before .before .before .args .k))
-
-add-l : tie.Need-add-l Inv-loop μ-loop
-add-l c = search needs
-
-loop-less : tie.Need-loop-less Inv-loop μ-loop
-loop-less c = search needs
 
 loop-again : tie.Need-loop-again Inv-loop μ-loop
 loop-again c =
@@ -96,16 +75,16 @@ means-row-spec =
     (tie.spec
     Inv-loop
     μ-loop
-    start-requires
+    (λ c κs. search needs)
     loop-holds
-    sub-lag-at
-    sub-lag-at-2
-    mul-lag
-    shared-slice-read-lag
+    (λ c. search needs)
+    (λ c. search needs)
+    (λ c. search needs)
+    (λ c. search needs)
     mul-lag-2
     lag-requires
     mul-step
-    add-l
-    loop-less
+    (λ c. search needs)
+    (λ c. search needs)
     loop-again
     returns)

@@ -8,12 +8,6 @@ use Rattle.params.specs.Parameters.{φ}
 use Rattle.density.proofs.phi.Statement.{statement}
 use Rattle.density.proofs.phi.Tie as tie
 
-mul-result : tie.Need-mul-result
-mul-result c = search needs
-
-element-copy-out-result : tie.Need-element-copy-out-result
-element-copy-out-result c = search needs
-
 returns : tie.Need-returns
 unfolding φ
 returns c = rw (eq-eqb _ _ (c .before .if1 .taken), zero-mul, zero-add)
@@ -44,8 +38,8 @@ pub phi-spec : {M : Type 1} → statement M
 phi-spec =
     tie.close
     (tie.spec
-    mul-result
-    element-copy-out-result
+    (λ c. search needs)
+    (λ c. search needs)
     returns
     mul-result-2
     add-result

@@ -20,31 +20,10 @@ abbrev μ-loop : tie.MeasureT-loop
 loop-holds : tie.Need-loop-holds Inv-loop μ-loop
 loop-holds c = (omega arith, fillAt-none 0 _ _, omega (arith, mul-le-mul (c .pre .2) (c .pre .1)))
 
-mul-loop : tie.Need-mul-loop Inv-loop μ-loop
-mul-loop c = search needs
-
-rem-phi : tie.Need-rem-phi Inv-loop μ-loop
-rem-phi c = search needs
-
-div-phi : tie.Need-div-phi Inv-loop μ-loop
-div-phi c = search needs
-
 phi-requires : tie.Need-phi-requires Inv-loop μ-loop
 phi-requires c κs =
     let pre = c .before .before .pre in
     (omega (arith, mod-lt (c .before .loop .e) (pre .0)), div-lt-iff-lt-mul (pre .0) .1 (c .loop-test .taken), pre .2)
-
-mul-row : tie.Need-mul-row Inv-loop μ-loop
-mul-row c = search needs
-
-array-write-row : tie.Need-array-write-row Inv-loop μ-loop
-array-write-row c = search needs
-
-add-e : tie.Need-add-e Inv-loop μ-loop
-add-e c = search needs
-
-loop-less : tie.Need-loop-less Inv-loop μ-loop
-loop-less c = search needs
 
 loop-again : tie.Need-loop-again Inv-loop μ-loop
 unfolding phiAt
@@ -60,13 +39,13 @@ phis-spec =
     Inv-loop
     μ-loop
     loop-holds
-    mul-loop
-    rem-phi
-    div-phi
+    (λ c. search needs)
+    (λ c. search needs)
+    (λ c. search needs)
     phi-requires
-    mul-row
-    array-write-row
-    add-e
-    loop-less
+    (λ c. search needs)
+    (λ c. search needs)
+    (λ c. search needs)
+    (λ c. search needs)
     loop-again
     returns)

@@ -20,48 +20,6 @@ abbrev μ-loop : tie.MeasureT-loop
 loop-holds : tie.Need-loop-holds Inv-loop μ-loop
 loop-holds c = (omega arith, fillAt-none 0 _ _, sum-none _)
 
-mul-z : tie.Need-mul-z Inv-loop μ-loop
-mul-z c = search needs
-
-element-copy-out-z : tie.Need-element-copy-out-z Inv-loop μ-loop
-element-copy-out-z c = search needs
-
-mul-z-2 : tie.Need-mul-z-2 Inv-loop μ-loop
-mul-z-2 c = search needs
-
-element-copy-out-z-2 : tie.Need-element-copy-out-z-2 Inv-loop μ-loop
-element-copy-out-z-2 c = search needs
-
-mul-w : tie.Need-mul-w Inv-loop μ-loop
-mul-w c = search needs
-
-element-copy-out-w : tie.Need-element-copy-out-w Inv-loop μ-loop
-element-copy-out-w c = search needs
-
-lnpdf-requires : tie.Need-lnpdf-requires Inv-loop μ-loop
-lnpdf-requires c κs = search needs
-
-mul-exp : tie.Need-mul-exp Inv-loop μ-loop
-mul-exp c = search needs
-
-element-copy-out-exp : tie.Need-element-copy-out-exp Inv-loop μ-loop
-element-copy-out-exp c = search needs
-
-exp-requires : tie.Need-exp-requires Inv-loop μ-loop
-exp-requires c κs = search needs
-
-mul-weights : tie.Need-mul-weights Inv-loop μ-loop
-mul-weights c = search needs
-
-element-write-weights : tie.Need-element-write-weights Inv-loop μ-loop
-element-write-weights c = search needs
-
-add-a : tie.Need-add-a Inv-loop μ-loop
-add-a c = search needs
-
-loop-less : tie.Need-loop-less Inv-loop μ-loop
-loop-less c = search needs
-
 loop-again : tie.Need-loop-again Inv-loop μ-loop
 unfolding weightAt
 loop-again c =
@@ -83,19 +41,19 @@ weigh-spec =
     Inv-loop
     μ-loop
     loop-holds
-    mul-z
-    element-copy-out-z
-    mul-z-2
-    element-copy-out-z-2
-    mul-w
-    element-copy-out-w
-    lnpdf-requires
-    mul-exp
-    element-copy-out-exp
-    exp-requires
-    mul-weights
-    element-write-weights
-    add-a
-    loop-less
+    (λ c. search needs)
+    (λ c. search needs)
+    (λ c. search needs)
+    (λ c. search needs)
+    (λ c. search needs)
+    (λ c. search needs)
+    (λ c κs. search needs)
+    (λ c. search needs)
+    (λ c. search needs)
+    (λ c κs. search needs)
+    (λ c. search needs)
+    (λ c. search needs)
+    (λ c. search needs)
+    (λ c. search needs)
     loop-again
     returns)

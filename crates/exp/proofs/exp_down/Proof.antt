@@ -15,9 +15,6 @@ use Rattle.exp.proofs.exp_down.Tie as tie
 made : (x : Float) (n : ℕ) (t y : Float) → n ≡ expWhole x 1 → t ≡ ofInt binary64 (pos n) → y ≡ farPart true x t → Made true x n t y
 made x n t y e f g = record { n-is = e; t-is = f; y-is = g }
 
-array-read-whole-part : tie.Need-array-read-whole-part
-array-read-whole-part c = search needs
-
 whole-part-requires : tie.Need-whole-part-requires
 unfolding signed
 whole-part-requires c κs = let w = far-sized true (c .args .x) (c .pre) .few in (w .from, w .within)
@@ -25,15 +22,6 @@ whole-part-requires c κs = let w = far-sized true (c .args .x) (c .pre) .few in
 of-whole-requires : tie.Need-of-whole-requires
 unfolding signed expWhole
 of-whole-requires c κs = let h = far-few true (c .before .args .x) (c .whole-part .result) (c .before .pre) (c .whole-part .ensures) in omega arith
-
-array-read-exp-part : tie.Need-array-read-exp-part
-array-read-exp-part c = search needs
-
-array-read-exp-part-2 : tie.Need-array-read-exp-part-2
-array-read-exp-part-2 c = search needs
-
-exp-part-requires : tie.Need-exp-part-requires
-exp-part-requires c κs = search needs
 
 float-to-bits-b : tie.Need-float-to-bits-b
 unfolding signed expWhole
@@ -55,9 +43,6 @@ returns : tie.Need-returns
 unfolding signed expWhole
 returns c = scale-down (c .before .exp-part .result) (c .before .before .before .whole-part .result) (c .if1 .taken) ∙ far-is (made (c .before .before .before .before .args .x) (c .before .before .before .whole-part .result) (c .before .before .of-whole .result) (c .before .exp-part .result) (c .before .before .before .whole-part .ensures) (c .before .before .of-whole .ensures) (c .before .exp-part .ensures))
 
-sub-result-2 : tie.Need-sub-result-2
-sub-result-2 c = search needs
-
 mul-result-2 : tie.Need-mul-result-2
 unfolding signed expWhole
 mul-result-2 c = let h = far-few true (c .before .before .before .before .args .x) (c .before .before .before .whole-part .result) (c .before .before .before .before .pre) (c .before .before .before .whole-part .ensures) in omega arith
@@ -78,18 +63,18 @@ pub exp-down-spec : {M : Type 1} → statement M
 exp-down-spec =
     tie.close
     (tie.spec
-    array-read-whole-part
+    (λ c. search needs)
     whole-part-requires
     of-whole-requires
-    array-read-exp-part
-    array-read-exp-part-2
-    exp-part-requires
+    (λ c. search needs)
+    (λ c. search needs)
+    (λ c κs. search needs)
     float-to-bits-b
     mul-result
     sub-result
     float-from-bits-result
     returns
-    sub-result-2
+    (λ c. search needs)
     mul-result-2
     sub-result-3
     float-from-bits-result-2

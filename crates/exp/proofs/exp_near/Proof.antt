@@ -27,9 +27,6 @@ mul-exp-part-2 c = let h = near-ready (c .args .x) (c .args .hx) (c .args .s) (s
 array-read-exp-part-2 : tie.Need-array-read-exp-part-2
 array-read-exp-part-2 c = let h = near-ready (c .args .x) (c .args .hx) (c .args .s) (subst T (sym (c .good .0 .1)) tt) (c .pre .0) (c .pre .1) (c .pre .2) .1 in omega arith
 
-exp-part-requires : tie.Need-exp-part-requires
-exp-part-requires c κs = search needs
-
 float-to-bits-result : tie.Need-float-to-bits-result
 float-to-bits-result c = made (c .before .args .x) (c .before .args .s) (c .exp-part .result) (near-ready (c .before .args .x) (c .before .args .hx) (c .before .args .s) (subst T (sym (c .before .good .0 .1)) tt) (c .before .pre .0) (c .before .pre .1) (c .before .pre .2) .0) (c .exp-part .ensures) .number
 
@@ -57,7 +54,7 @@ exp-near-spec =
     array-read-exp-part
     mul-exp-part-2
     array-read-exp-part-2
-    exp-part-requires
+    (λ c κs. search needs)
     float-to-bits-result
     add-result
     mul-result

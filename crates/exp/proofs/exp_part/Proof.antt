@@ -3,12 +3,9 @@ use Rattle.exp.specs.Exp.{expPart}
 use Rattle.exp.proofs.exp_part.Statement.{statement}
 use Rattle.exp.proofs.exp_part.Tie as tie
 
-exp-poly-requires : tie.Need-exp-poly-requires
-exp-poly-requires c κs = search needs
-
 returns : tie.Need-returns
 unfolding expPart
 returns c = cc
 
 pub exp-part-spec : {M : Type 1} → statement M
-exp-part-spec = tie.close (tie.spec exp-poly-requires returns)
+exp-part-spec = tie.close (tie.spec (λ c κs. search needs) returns)

@@ -32,9 +32,6 @@ returns-4 : tie.Need-returns-4
 unfolding expReduce
 returns-4 c = simp (le-ltb _ _ (c .before .if1 .left), lt-ltb _ _ (c .if4 .taken))
 
-exp-zero-requires : tie.Need-exp-zero-requires
-exp-zero-requires c κs = search needs
-
 returns-5 : tie.Need-returns-5
 unfolding expReduce
 returns-5 c = simp (le-ltb _ _ (c .before .before .if1 .left), le-ltb _ _ (c .before .if4 .left)) (c .exp-zero .ensures)
@@ -50,5 +47,5 @@ exp-reduce-spec =
     exp-down-requires
     returns-3
     returns-4
-    exp-zero-requires
+    (λ c κs. search needs)
     returns-5)

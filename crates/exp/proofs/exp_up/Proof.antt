@@ -16,9 +16,6 @@ use Rattle.exp.proofs.exp_up.Tie as tie
 made : (x : Float) (n : ℕ) (t y : Float) → n ≡ expWhole x 0 → t ≡ ofInt binary64 (pos n) → y ≡ farPart false x t → Made false x n t y
 made x n t y e f g = record { n-is = e; t-is = f; y-is = g }
 
-array-read-whole-part : tie.Need-array-read-whole-part
-array-read-whole-part c = search needs
-
 whole-part-requires : tie.Need-whole-part-requires
 unfolding signed
 whole-part-requires c κs = let w = far-sized false (c .args .x) (c .pre .0) .few in (w .from, w .within)
@@ -26,15 +23,6 @@ whole-part-requires c κs = let w = far-sized false (c .args .x) (c .pre .0) .fe
 of-whole-requires : tie.Need-of-whole-requires
 unfolding signed expWhole
 of-whole-requires c κs = let h = far-few false (c .before .args .x) (c .whole-part .result) (c .before .pre .0) (c .whole-part .ensures) in omega arith
-
-array-read-exp-part : tie.Need-array-read-exp-part
-array-read-exp-part c = search needs
-
-array-read-exp-part-2 : tie.Need-array-read-exp-part-2
-array-read-exp-part-2 c = search needs
-
-exp-part-requires : tie.Need-exp-part-requires
-exp-part-requires c κs = search needs
 
 float-to-bits-result : tie.Need-float-to-bits-result
 unfolding signed expWhole
@@ -60,12 +48,12 @@ pub exp-up-spec : {M : Type 1} → statement M
 exp-up-spec =
     tie.close
     (tie.spec
-    array-read-whole-part
+    (λ c. search needs)
     whole-part-requires
     of-whole-requires
-    array-read-exp-part
-    array-read-exp-part-2
-    exp-part-requires
+    (λ c. search needs)
+    (λ c. search needs)
+    (λ c κs. search needs)
     float-to-bits-result
     mul-result
     add-result

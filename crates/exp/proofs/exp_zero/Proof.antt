@@ -3,12 +3,9 @@ use Rattle.exp.specs.Exp.{expZero}
 use Rattle.exp.proofs.exp_zero.Statement.{statement}
 use Rattle.exp.proofs.exp_zero.Tie as tie
 
-exp-poly-requires : tie.Need-exp-poly-requires
-exp-poly-requires c κs = search needs
-
 returns : tie.Need-returns
 unfolding expZero
 returns c = cc
 
 pub exp-zero-spec : {M : Type 1} → statement M
-exp-zero-spec = tie.close (tie.spec exp-poly-requires returns)
+exp-zero-spec = tie.close (tie.spec (λ c κs. search needs) returns)

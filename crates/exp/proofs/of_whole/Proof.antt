@@ -5,14 +5,8 @@ use lib.Ieee.{binary64, ofInt}
 use Rattle.exp.proofs.of_whole.Statement.{statement}
 use Rattle.exp.proofs.of_whole.Tie as tie
 
-cast-result : tie.Need-cast-result
-cast-result c = search needs
-
-int-to-float-result : tie.Need-int-to-float-result
-int-to-float-result c = search needs
-
 returns : tie.Need-returns
 returns c = ap (ofInt binary64) (rw (le-leb _ _ (c .before .pre)))
 
 pub of-whole-spec : {M : Type 1} → statement M
-of-whole-spec = tie.close (tie.spec cast-result int-to-float-result returns)
+of-whole-spec = tie.close (tie.spec (λ c. search needs) (λ c. search needs) returns)

@@ -10,9 +10,6 @@ use Rattle.exp.proofs.whole_part.Tie as tie
 float-to-bits-b : tie.Need-float-to-bits-b
 float-to-bits-b c = within-number (c .args .v) 2239 2 (c .pre .1)
 
-add-result : tie.Need-add-result
-add-result c = search needs
-
 sub-result : tie.Need-sub-result
 sub-result c = let h = cut (c .args .v) (subst T (sym (c .good .0 .1)) tt) (c .pre .0) (c .pre .1) in omega arith
 
@@ -23,4 +20,4 @@ returns : tie.Need-returns
 returns c = cut (c .args .v) (subst T (sym (c .good .0 .1)) tt) (c .pre .0) (c .pre .1) .whole
 
 pub whole-part-spec : {M : Type 1} → statement M
-whole-part-spec = tie.close (tie.spec float-to-bits-b add-result sub-result shr-result returns)
+whole-part-spec = tie.close (tie.spec float-to-bits-b (λ c. search needs) sub-result shr-result returns)

@@ -6,21 +6,9 @@ use Rattle.filter.proofs.divide.Reads as divide-reads
 use Rattle.filter.proofs.keep.Reads as keep-reads
 use Rattle.prediction.proofs.later_row.Reads as later-row-reads
 
-divide-requires : tie.Need-divide-requires
-divide-requires c κs = search needs
-
-keep-requires : tie.Need-keep-requires
-keep-requires c κs = search needs
-
-later-row-requires : tie.Need-later-row-requires
-later-row-requires c κs = search needs
-
-same-length : tie.Need-same-length
-same-length c = search needs
-
 returns : tie.Need-returns
 returns c = (c .before .before .before .before .before .before .before .before .before .divide .ensures, (rw (c .before .before .before .before .before .before .before .before .before .before .before .before .pre .1) at (c .later-row .ensures), c .before .before .before .before .before .keep .ensures))
 
 pub advance-spec : {M : Type 1} → statement M
 advance-spec =
-    tie.close (tie.spec divide-requires keep-requires later-row-requires same-length returns)
+    tie.close (tie.spec (λ c κs. search needs) (λ c κs. search needs) (λ c κs. search needs) (λ c. search needs) returns)

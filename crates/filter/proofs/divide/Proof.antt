@@ -17,24 +17,6 @@ abbrev μ-loop : tie.MeasureT-loop
 loop-holds : tie.Need-loop-holds Inv-loop μ-loop
 loop-holds c = (omega arith, fillAt-none _ _ _)
 
-mul-weights : tie.Need-mul-weights Inv-loop μ-loop
-mul-weights c = search needs
-
-element-copy-out-weights : tie.Need-element-copy-out-weights Inv-loop μ-loop
-element-copy-out-weights c = search needs
-
-mul-weights-2 : tie.Need-mul-weights-2 Inv-loop μ-loop
-mul-weights-2 c = search needs
-
-element-write-weights : tie.Need-element-write-weights Inv-loop μ-loop
-element-write-weights c = search needs
-
-add-a : tie.Need-add-a Inv-loop μ-loop
-add-a c = search needs
-
-loop-less : tie.Need-loop-less Inv-loop μ-loop
-loop-less c = search needs
-
 loop-again : tie.Need-loop-again Inv-loop μ-loop
 loop-again c =
     let l = c .before .before .before .args .weights .now in
@@ -51,11 +33,11 @@ divide-spec =
     Inv-loop
     μ-loop
     loop-holds
-    mul-weights
-    element-copy-out-weights
-    mul-weights-2
-    element-write-weights
-    add-a
-    loop-less
+    (λ c. search needs)
+    (λ c. search needs)
+    (λ c. search needs)
+    (λ c. search needs)
+    (λ c. search needs)
+    (λ c. search needs)
     loop-again
     returns)

@@ -42,23 +42,8 @@ weighed c = c .weigh-row .ensures (c .before .before .before .before .before .be
 longs : (c : tie.After-weigh-row Inv-loop μ-loop) → (length (c .weigh-row .last .1 .1 .1 .1 .1 .1 .1 .1 .1 .1 .0) ≡ 256) × (length (c .weigh-row .last .1 .1 .1 .1 .1 .1 .1 .1 .1 .1 .1 .0) ≡ 256)
 longs c = let e = c .weigh-row .ensures (c .before .before .before .before .before .before .before .before .before .before .before .before .args .t1) (c .before .before .before .before .before .before .before .before .before .before .before .before .pre .1 .1 .1) in (e .1, e .2)
 
-first-row-requires : tie.Need-first-row-requires Inv-loop μ-loop
-first-row-requires c κs = search needs
-
 loop-holds : tie.Need-loop-holds Inv-loop μ-loop
 loop-holds c = (omega arith, fill-long _ _ _ (c .first-row .ensures) (small (c .before .before .before .before)), search needs, search needs, kept-none _ _ _ _ _ _ (positive (c .before .before .before .before)) (c .before .before .before .before .pre .1 .0 .0) _ _ (c .first-row .ensures))
-
-weigh-row-requires : tie.Need-weigh-row-requires Inv-loop μ-loop
-weigh-row-requires c κs = search needs
-
-is-usable-requires : tie.Need-is-usable-requires Inv-loop μ-loop
-is-usable-requires c κs = search needs
-
-refused-requires : tie.Need-refused-requires Inv-loop μ-loop
-refused-requires c κs = search needs
-
-same-length : tie.Need-same-length Inv-loop μ-loop
-same-length c = search needs
 
 returns : tie.Need-returns Inv-loop μ-loop
 returns c =
@@ -66,17 +51,11 @@ returns c =
     let bad = kept-bad _ _ _ _ _ _ (positive (c .before .before .before .before .before .before .before .before .before .before .before .before .before .before .before)) (c .before .before .before .before .before .before .before .before .before .before .before .before .before .before .before .pre .1 .0 .0) _ _ _ _ _ _ kept (weighed (c .before .before .before)) _ (c .before .before .before .before .before .before .before .before .before .loop-test .taken) (sym (c .before .before .is-usable .ensures) ∙ not-true _ (c .before .if1 .taken)) in
     (rw bad (c .refused .ensures zero⁺), ((kept .long, kept .rest), λ e. absurd (refusal-stays zero⁺ (c .refused .ensures zero⁺) e)))
 
-log-requires : tie.Need-log-requires Inv-loop μ-loop
-log-requires c κs = search needs
-
 advance-requires : tie.Need-advance-requires Inv-loop μ-loop
 advance-requires c κs = (positive (c .before .before .before .before .before .before .before .before .before .before .before .before .before .before .before .before .before .before), c .before .before .before .before .before .before .before .before .before .before .before .before .before .before .before .before .before .before .pre .1 .0 .1, small (c .before .before .before .before .before .before .before .before .before .before .before .before .before .before .before .before .before .before), omega (arith, c .before .before .before .before .before .before .before .before .before .before .before .before .loop-test .taken, c .before .before .before .before .before .before .before .before .before .before .before .before .before .before .before .before .before .before .pre .1 .0 .3, c .before .before .before .before .before .before .before .before .before .before .before .before .before .before .before .before .before .before .pre .1 .0 .4), c .before .before .before .before .before .before .before .before .before .before .before .before .before .loop .inv .1, longs (c .before .before .before .before .before .before) .1, omega (arith, in-work (c .before .before .before .before .before .before .before .before .before .before .before .before), c .before .before .before .before .before .before .before .before .before .before .before .before .before .loop .inv .4 .long, c .before .before .before .before .before .before .before .before .before .before .before .before .before .before .before .before .before .before .pre .1 .0 .5))
 
 add-i : tie.Need-add-i Inv-loop μ-loop
 add-i c = omega (arith, c .before .before .before .before .before .before .before .before .before .before .before .before .before .before .before .loop-test .taken, c .before .before .before .before .before .before .before .before .before .before .before .before .before .before .before .before .before .before .before .before .before .pre .1 .0 .3, c .before .before .before .before .before .before .before .before .before .before .before .before .before .before .before .before .before .before .before .before .before .pre .1 .0 .4)
-
-loop-less : tie.Need-loop-less Inv-loop μ-loop
-loop-less c = search needs
 
 loop-again : tie.Need-loop-again Inv-loop μ-loop
 loop-again c =
@@ -90,9 +69,6 @@ loop-again c =
       kept-more (start .args .t1) _ _ _ _ _ (positive start) (start .pre .1 .0 .0) _ _ _ _ _ _ kept (weighed (c .before .before .before .before .before .before .before .before .before)) _ _ _ _ _ _ (sym (c .before .before .before .before .before .before .before .before .is-usable .ensures) ∙ not-false _ (c .before .before .before .before .before .before .before .if1 .left)) (start .pre .1 .1 .0 .1) (start .pre .1 .0 .2) (done .0) (done .1 .0) (start .pre .1 .0 .1) (done .1 .1) (omega (arith, in-work (c .before .before .before .before .before .before .before .before .before .before .before .before .before .before .before), kept .long, start .pre .1 .0 .5)) (in-work (c .before .before .before .before .before .before .before .before .before .before .before .before .before .before .before)) _ (c .before .before .before .before .before .before .log .ensures),
     )
 
-same-length-2 : tie.Need-same-length-2 Inv-loop μ-loop
-same-length-2 c = search needs
-
 returns-2 : tie.Need-returns-2 Inv-loop μ-loop
 returns-2 c =
     let all : c .before .loop .i ≡ c .before .before .before .before .before .before .args .n = omega arith in
@@ -105,17 +81,17 @@ each-row-spec =
     (tie.spec
     Inv-loop
     μ-loop
-    first-row-requires
+    (λ c κs. search needs)
     loop-holds
-    weigh-row-requires
-    is-usable-requires
-    refused-requires
-    same-length
+    (λ c κs. search needs)
+    (λ c κs. search needs)
+    (λ c κs. search needs)
+    (λ c. search needs)
     returns
-    log-requires
+    (λ c κs. search needs)
     advance-requires
     add-i
-    loop-less
+    (λ c. search needs)
     loop-again
-    same-length-2
+    (λ c. search needs)
     returns-2)

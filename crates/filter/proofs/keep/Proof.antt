@@ -5,9 +5,6 @@ use Rattle.filter.proofs.keep.Statement.{statement}
 use Rattle.filter.proofs.keep.Tie as tie
 use Rattle.rows.proofs.store.Reads as store-reads
 
-mul-at : tie.Need-mul-at
-mul-at c = search needs
-
 mul-at-2 : tie.Need-mul-at-2
 mul-at-2 c = omega (arith, c .before .pre .2, c .before .good)
 
@@ -17,16 +14,10 @@ store-requires c κs = (c .before .before .pre .0, omega (arith, c .before .befo
 add-store : tie.Need-add-store
 add-store c = omega (arith, c .before .before .before .before .before .before .pre .2, c .before .before .before .before .before .before .good)
 
-store-requires-2 : tie.Need-store-requires-2
-store-requires-2 c κs = search needs
-
-same-length : tie.Need-same-length
-same-length c = search needs
-
 returns : tie.Need-returns
 returns c = rw (← c .before .before .before .before .before .before .store .ensures) (c .before .before .store2 .ensures)
 
 pub keep-spec : {M : Type 1} → statement M
 keep-spec =
     tie.close
-    (tie.spec mul-at mul-at-2 store-requires add-store store-requires-2 same-length returns)
+    (tie.spec (λ c. search needs) mul-at-2 store-requires add-store (λ c κs. search needs) (λ c. search needs) returns)

@@ -27,25 +27,10 @@ order-small c = order-at-most-7 _ _ (c .pre .0 .low) (c .pre .0 .few)
 enough : (c : tie.Start) → (c .args .t1 .«means_count» ≤ c .args .m) × (c .args .m ≤ 256)
 enough c = (rw (c .pre .1 .0) (regimes-within (c .args .t1 .«means_count») (c .args .t1 .order) (positive c)), rw (c .pre .1 .0) (c .pre .0 .few))
 
-solved-shares-requires : tie.Need-solved-shares-requires
-solved-shares-requires c κs = search needs
-
-enum-known-check : tie.Need-enum-known-check
-enum-known-check c = search needs
-
-refused-requires : tie.Need-refused-requires
-refused-requires c κs = search needs
-
 returns : tie.Need-returns
 returns c =
     let e = run-refused (c .before .before .before .before .before .before .before .before .before .args .t1) (c .before .before .before .before .before .before .before .before .before .args .y .now) (c .before .before .before .before .solved-shares .ensures) zero⁺ (c .before .before .check .given .1) (c .refused .ensures zero⁺) in
     (e, ((refl, refl), λ d. absurd (refusal-stays zero⁺ (c .refused .ensures zero⁺) d)))
-
-enum-told : tie.Need-enum-told
-enum-told c = search needs
-
-powers-requires : tie.Need-powers-requires
-powers-requires c κs = search needs
 
 phis-requires : tie.Need-phis-requires
 phis-requires c κs = (positive (c .before .before .before .before .before .before .before .before .before), c .before .before .before .before .before .before .before .before .before .pre .0 .high, order-small (c .before .before .before .before .before .before .before .before .before))
@@ -55,9 +40,6 @@ deviations-requires c κs = (positive (c .before .before .before .before .before
 
 logarithms-requires : tie.Need-logarithms-requires
 logarithms-requires c κs = (positive (c .before .before .before .before .before .before .before .before .before .before .before .before), c .before .before .before .before .before .before .before .before .before .before .before .before .pre .0 .high, enough (c .before .before .before .before .before .before .before .before .before .before .before .before) .0, enough (c .before .before .before .before .before .before .before .before .before .before .before .before) .1)
-
-steps-requires : tie.Need-steps-requires
-steps-requires c κs = search needs
 
 each-row-requires : tie.Need-each-row-requires
 each-row-requires c κs =
@@ -76,9 +58,6 @@ each-row-requires c κs =
       ),
     )
 
-same-length : tie.Need-same-length
-same-length c = search needs
-
 returns-2 : tie.Need-returns-2
 returns-2 c =
     let start = c .before .before .before .before .before .before .before .before .before .before .before .before .before .before .before .before .before .before .before .before .before .before .before .before in
@@ -92,16 +71,16 @@ pub run-spec : {M : Type 1} → statement M
 run-spec =
     tie.close
     (tie.spec
-    solved-shares-requires
-    enum-known-check
-    refused-requires
+    (λ c κs. search needs)
+    (λ c. search needs)
+    (λ c κs. search needs)
     returns
-    enum-told
-    powers-requires
+    (λ c. search needs)
+    (λ c κs. search needs)
     phis-requires
     deviations-requires
     logarithms-requires
-    steps-requires
+    (λ c κs. search needs)
     each-row-requires
-    same-length
+    (λ c. search needs)
     returns-2)

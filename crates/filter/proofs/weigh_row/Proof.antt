@@ -29,9 +29,6 @@ mul-weigh c = omega (arith, at-time (c .before .before), c .before .before .befo
 shared-slice-read-weigh : tie.Need-shared-slice-read-weigh
 shared-slice-read-weigh c = rw (at-time (c .before .before .before)) (c .before .before .before .before .before .pre .1 .1)
 
-weigh-requires : tie.Need-weigh-requires
-weigh-requires c κs = search needs
-
 returns : tie.Need-returns
 returns c q scales =
     let centres = c .before .before .before .before .means-row .ensures q (scales .parts) in (
@@ -49,5 +46,5 @@ weigh-row-spec =
     means-row-requires
     mul-weigh
     shared-slice-read-weigh
-    weigh-requires
+    (λ c κs. search needs)
     returns)

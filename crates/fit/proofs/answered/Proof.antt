@@ -4,13 +4,9 @@ use borrow.Author.Needs.{needs}
 use Rattle.fit.proofs.answered.Statement.{statement}
 use Rattle.fit.proofs.answered.Tie as tie
 
--- src/lib.rt:191:9
-passed-requires : tie.Need-passed-requires
-passed-requires c κs = search needs
-
 -- src/lib.rt:187:1
 returns : tie.Need-returns
 returns c = answered-is (c .before .before .args .q) _ _ _ (c .before .passed .ensures)
 
 pub answered-spec : {M : Type 1} → statement M
-answered-spec = tie.close (tie.spec passed-requires returns)
+answered-spec = tie.close (tie.spec (λ c κs. search needs) returns)

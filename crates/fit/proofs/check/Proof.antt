@@ -10,10 +10,6 @@ use Rattle.fit.proofs.check.Tie as tie
 returns : tie.Need-returns
 returns c = λ q y o v. order-zero q y o v (eq-eqb _ _ (c .if1 .taken))
 
--- src/lib.rt:278:9
-is-usable-requires : tie.Need-is-usable-requires
-is-usable-requires c κs = search needs
-
 -- src/lib.rt:279:9
 returns-2 : tie.Need-returns-2
 returns-2 c = λ q y o v. no-variance q y o v (ne-eqb _ _ (c .before .before .if1 .left)) (sym (c .before .is-usable .ensures) ∙ not-true _ (c .if2 .taken))
@@ -23,4 +19,4 @@ returns-3 : tie.Need-returns-3
 returns-3 c = λ q y o v. a-variance q y o v (ne-eqb _ _ (c .before .before .if1 .left)) (sym (c .before .is-usable .ensures) ∙ not-false _ (c .if2 .left))
 
 pub check-spec : {M : Type 1} → statement M
-check-spec = tie.close (tie.spec returns is-usable-requires returns-2 returns-3)
+check-spec = tie.close (tie.spec returns (λ c κs. search needs) returns-2 returns-3)

@@ -1,5 +1,5 @@
 use Rattle.fit.proofs.OnePass.{rest-kept}
-use Rattle.model.proofs.Runs.{rows-fit, all-cleared, windows-split, run-says, smoothed-as-found, smoothed-is}
+use Rattle.calls.proofs.Runs.{rows-fit, all-cleared, windows-split, run-says, smoothed-as-found, smoothed-is}
 use Rattle.number.proofs.Table.{fill-long}
 use native.Mathlib.Nat.{mul-le-mul}
 use Prim.Native.Nat.{_*_, _-_, _/_, _<_, _≤_}
@@ -18,10 +18,6 @@ work-small c = let n : c .args .n ≤ 4096 = omega (arith, c .pre .1 .2, c .pre 
 -- src/lib.rt:239:9
 run-requires : tie.Need-run-requires
 run-requires c κs = let s = c .before .before .before .before in (s .pre .0, (s .pre .1 .0, s .pre .1 .1, s .pre .1 .2, s .pre .1 .3, omega (arith, rows-fit (s .args .n) (s .args .m), s .pre .1 .4)))
-
--- src/lib.rt:243:43
-enum-told : tie.Need-enum-told
-enum-told c = search needs
 
 -- src/lib.rt:243:13
 smooth-requires : tie.Need-smooth-requires
@@ -43,10 +39,6 @@ mul-clear-2 c = omega (arith, work-small (c .before .before .before .before .bef
 clear-requires : tie.Need-clear-requires
 clear-requires c κs = omega (arith, c .before .before .before .before .before .before .before .before .before .before .before .before .before .before .before .before .before .before .before .pre .1 .4, c .before .before .before .before .before .before .before .before .smooth .ensures .long, c .before .before .before .before .before .before .before .before .before .before .before .before .before .before .run .ensures .1 .0 .0)
 
--- src/lib.rt:249:25
-enum-told-2 : tie.Need-enum-told-2
-enum-told-2 c = search needs
-
 -- src/lib.rt:249:36
 mul-clear-3 : tie.Need-mul-clear-3
 mul-clear-3 c = omega (arith, work-small (c .before .before .before .before .before .before .before .before .before .before))
@@ -64,16 +56,8 @@ same-length : tie.Need-same-length
 same-length c = fill-long _ _ _ (c .before .before .clear .ensures) (omega (arith, c .before .before .before .before .before .before .before .before .before .before .before .before .before .before .before .before .before .before .before .before .before .before .pre .1 .4, c .before .before .before .before .before .before .before .before .before .before .before .smooth .ensures .long, c .before .before .before .before .before .before .before .before .before .before .before .before .before .before .before .before .before .run .ensures .1 .0 .0)) ∙ c .before .before .before .before .before .before .before .before .before .before .before .smooth .ensures .long ∙ c .before .before .before .before .before .before .before .before .before .before .before .before .before .before .before .before .before .run .ensures .1 .0 .0
 
 -- src/lib.rt:224:1
-same-length-2 : tie.Need-same-length-2
-same-length-2 c = search needs
-
--- src/lib.rt:224:1
 returns : tie.Need-returns
 returns c = let s = c .before .before .before .before .before .before .before .before .before .before .before .before .before .before .before .before .before .before .before .before .before .before in let q = s .args .q in let ran = c .before .before .before .before .before .before .before .before .before .before .before .before .before .before .before .before .before .run .ensures in let done = c .before .before .before .before .before .before .before .before .before .before .before .smooth .ensures in let passed = c .before .before .before .before .before .before .before .before .before .before .before .before .before .enum-told .given .1 in (ran .0, (all-cleared _ _ _ _ (rest-kept q _ _ _ _ _ (s .pre .1 .0) done (ran .1 .0 .1)) (c .before .before .clear .ensures), smoothed-is q _ _ _ _ (omega (arith, s .pre .0 .low)) (s .pre .1 .0) (s .pre .1 .1) (s .pre .1 .2) (run-says q _ (ran .0) passed) _ (ran .1 .1 passed) _ _ done (c .before .before .before .before .before .before .tabulate .ensures)))
-
--- src/lib.rt:224:1
-same-length-3 : tie.Need-same-length-3
-same-length-3 c = search needs
 
 -- src/lib.rt:224:1
 returns-2 : tie.Need-returns-2
@@ -84,18 +68,18 @@ close-spec =
     tie.close
     (tie.spec
     run-requires
-    enum-told
+    (λ c. search needs)
     smooth-requires
     tabulate-requires
     mul-clear
     mul-clear-2
     clear-requires
-    enum-told-2
+    (λ c. search needs)
     mul-clear-3
     mul-clear-4
     clear-requires-2
     same-length
-    same-length-2
+    (λ c. search needs)
     returns
-    same-length-3
+    (λ c. search needs)
     returns-2)

@@ -5,18 +5,6 @@ use borrow.Author.Needs.{needs}
 use Rattle.fit.proofs.end_of.Statement.{statement}
 use Rattle.fit.proofs.end_of.Tie as tie
 
--- src/lib.rt:281:20
-enum-told : tie.Need-enum-told
-enum-told c = search needs
-
--- src/lib.rt:285:27
-enum-known-course : tie.Need-enum-known-course
-enum-known-course c = search needs
-
--- src/lib.rt:290:25
-enum-known-course-2 : tie.Need-enum-known-course-2
-enum-known-course-2 c = search needs
-
 -- src/lib.rt:276:1
 returns : tie.Need-returns
 returns c = ap (endOf (c .before .before .args .max-iter)) (sym (c .enum-told .given .1))
@@ -32,4 +20,4 @@ returns-3 c = ap (endOf (c .before .before .before .args .max-iter)) (sym (c .be
 pub end-of-spec : {M : Type 1} → statement M
 end-of-spec =
     tie.close
-    (tie.spec enum-told enum-known-course enum-known-course-2 returns returns-2 returns-3)
+    (tie.spec (λ c. search needs) (λ c. search needs) (λ c. search needs) returns returns-2 returns-3)

@@ -5,20 +5,8 @@ use Rattle.fit.proofs.ended.Statement.{statement}
 use Rattle.fit.proofs.ended.Tie as tie
 
 -- src/lib.rt:262:26
-enum-told : tie.Need-enum-told
-enum-told c = search needs
-
--- src/lib.rt:262:26
 answered-requires : tie.Need-answered-requires
 answered-requires c κs = c .before .before .pre
-
--- src/lib.rt:263:23
-enum-known-check : tie.Need-enum-known-check
-enum-known-check c = search needs
-
--- src/lib.rt:263:29
-refused-requires : tie.Need-refused-requires
-refused-requires c κs = search needs
 
 -- src/lib.rt:256:1
 returns : tie.Need-returns
@@ -31,4 +19,4 @@ returns-2 c = let a = c .before .before .before .before .args in ended-by-refusa
 pub ended-spec : {M : Type 1} → statement M
 ended-spec =
     tie.close
-    (tie.spec enum-told answered-requires enum-known-check refused-requires returns returns-2)
+    (tie.spec (λ c. search needs) answered-requires (λ c. search needs) (λ c κs. search needs) returns returns-2)

@@ -1,6 +1,6 @@
 use Rattle.fit.proofs.Ends.{fit-ready, params-checked, fit-refused, fit-refused-later, fit-ran}
-use Rattle.model.proofs.Admitted.{admits, is-admitted, long-enough}
-use Rattle.ridge.specs.Ridge.{small}
+use Rattle.calls.proofs.Admitted.{admits, is-admitted, long-enough}
+use Rattle.em_ridge.specs.Ridge.{small}
 use Rattle.binding.specs.declared.Tables.the-variants.{One}
 use Rattle.number.specs.Number.{_⊗_, zero⁺}
 use lib.Ieee.{Float}
@@ -11,18 +11,6 @@ use borrow.Author.Needs.{needs}
 use lib.ListN.{length}
 use Rattle.fit.proofs.fit.Statement.{statement}
 use Rattle.fit.proofs.fit.Tie as tie
-
--- src/lib.rt:296:9
-admit-requires : tie.Need-admit-requires
-admit-requires c κs = search needs
-
--- src/lib.rt:298:26
-enum-known-bound : tie.Need-enum-known-bound
-enum-known-bound c = search needs
-
--- src/lib.rt:299:9
-refused-requires : tie.Need-refused-requires
-refused-requires c κs = search needs
 
 -- src/lib.rt:299:9
 returns : tie.Need-returns
@@ -35,36 +23,13 @@ enum-told c = search needs
 sample-variance-requires : tie.Need-sample-variance-requires
 sample-variance-requires c κs = let s = c .before .before .before .before .before .before .args in is-admitted (s .s) (s .y .now) (s .start) _ (One (length (s .smoothed .now))) (c .before .before .admit .ensures) (c .enum-told .given .1) .short
 
--- src/lib.rt:302:31
-check-requires : tie.Need-check-requires
-check-requires c κs = search needs
-
--- src/lib.rt:302:26
-enum-known-r : tie.Need-enum-known-r
-enum-known-r c = search needs
-
--- src/lib.rt:303:9
-refused-requires-2 : tie.Need-refused-requires-2
-refused-requires-2 c κs = search needs
-
 -- src/lib.rt:303:9
 returns-2 : tie.Need-returns-2
 returns-2 c = let s = c .before .before .before .before .before .before .before .before .before .before .before .before .args in fit-refused-later (s .s) (s .y .now) (s .start) _ _ (s .work .now) (s .smoothed .now) (c .refused2 .ensures (s .start) zero⁺ 0 false) (admits (s .s) (s .y .now) (s .start) _ (One (length (s .smoothed .now))) (c .before .before .before .before .before .before .before .before .admit .ensures) (c .before .before .before .before .before .before .enum-told .given .1)) (sym (c .before .before .before .before .check .ensures (s .start) (s .y .now) refl (sym (c .before .before .before .before .before .sample-variance .ensures))) ∙ c .before .before .r .given .1)
 
-enum-told-2 : tie.Need-enum-told-2
-enum-told-2 c = search needs
-
 -- src/lib.rt:305:5
 run-fit-requires : tie.Need-run-fit-requires
 run-fit-requires c κs = let s = c .before .before .before .before .before .before .before .before .before .before .before .before .args in let a = is-admitted (s .s) (s .y .now) (s .start) _ (One (length (s .smoothed .now))) (c .before .before .before .before .before .before .before .before .admit .ensures) (c .before .before .before .before .before .before .enum-told .given .1) in let passed = sym (c .before .before .before .before .check .ensures (s .start) (s .y .now) refl (sym (c .before .before .before .before .before .sample-variance .ensures))) ∙ c .before .before .enum-told2 .given .1 in (fit-ready a passed (ap (λ (x : Float). small ⊗ x) (c .before .before .before .before .before .sample-variance .ensures)), (a .windows-are, a .some, params-checked a, a .work-fits, long-enough _ _ (a .tables-fit)))
-
--- src/lib.rt:285:1
-same-length : tie.Need-same-length
-same-length c = search needs
-
--- src/lib.rt:285:1
-same-length-2 : tie.Need-same-length-2
-same-length-2 c = search needs
 
 -- src/lib.rt:285:1
 returns-3 : tie.Need-returns-3
@@ -74,18 +39,18 @@ pub fit-spec : {M : Type 1} → statement M
 fit-spec =
     tie.close
     (tie.spec
-    admit-requires
-    enum-known-bound
-    refused-requires
+    (λ c κs. search needs)
+    (λ c. search needs)
+    (λ c κs. search needs)
     returns
     enum-told
     sample-variance-requires
-    check-requires
-    enum-known-r
-    refused-requires-2
+    (λ c κs. search needs)
+    (λ c. search needs)
+    (λ c κs. search needs)
     returns-2
-    enum-told-2
+    (λ c. search needs)
     run-fit-requires
-    same-length
-    same-length-2
+    (λ c. search needs)
+    (λ c. search needs)
     returns-3)

@@ -10,14 +10,6 @@ use Rattle.fit.proofs.judge.Tie as tie
 run-requires : tie.Need-run-requires
 run-requires c κs = let r = c .before .before .before .pre in (r .0, (r .1 .0, r .1 .1, r .1 .2, r .1 .3, r .1 .4))
 
--- src/lib.rt:117:26
-enum-known-check : tie.Need-enum-known-check
-enum-known-check c = search needs
-
--- src/lib.rt:118:9
-same-length : tie.Need-same-length
-same-length c = search needs
-
 -- src/lib.rt:118:9
 returns : tie.Need-returns
 returns c = (run-refused _ _ _ (c .before .before .before .before .before .before .before .before .before .args .q) _ (c .before .before .before .before .before .run .ensures .0) (c .before .check .given .1) refl, (c .before .before .before .before .before .run .ensures .1 .0, λ e. never _ e))
@@ -30,10 +22,6 @@ verdict-of-requires : tie.Need-verdict-of-requires
 verdict-of-requires c κs = c .before .before .before .before .before .before .before .before .pre .1 .5
 
 -- src/lib.rt:98:1
-same-length-2 : tie.Need-same-length-2
-same-length-2 c = search needs
-
--- src/lib.rt:98:1
 returns-2 : tie.Need-returns-2
 returns-2 c = (run-passed _ _ _ (c .before .before .before .before .before .before .before .before .before .args .q) _ (c .before .before .before .before .before .run .ensures .0) (c .before .enum-told .given .1) (c .verdict-of .ensures), (c .before .before .before .before .before .run .ensures .1 .0, λ e. c .before .before .before .before .before .run .ensures .1 .1 (c .before .enum-told .given .1)))
 
@@ -42,10 +30,10 @@ judge-spec =
     tie.close
     (tie.spec
     run-requires
-    enum-known-check
-    same-length
+    (λ c. search needs)
+    (λ c. search needs)
     returns
     enum-told
     verdict-of-requires
-    same-length-2
+    (λ c. search needs)
     returns-2)

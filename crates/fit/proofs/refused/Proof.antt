@@ -4,13 +4,9 @@ use borrow.Author.Needs.{needs}
 use Rattle.fit.proofs.refused.Statement.{statement}
 use Rattle.fit.proofs.refused.Tie as tie
 
--- src/lib.rt:176:9
-refused-requires : tie.Need-refused-requires
-refused-requires c κs = search needs
-
 -- src/lib.rt:173:1
 returns : tie.Need-returns
 returns c = λ q l i d. refused-is (c .before .before .args .r) q l i d (c .before .refused .ensures)
 
 pub refused-spec : {M : Type 1} → statement M
-refused-spec = tie.close (tie.spec refused-requires returns)
+refused-spec = tie.close (tie.spec (λ c κs. search needs) returns)

@@ -1,5 +1,5 @@
 use Rattle.fit.proofs.Ends.{closing-is, closing-ready, end-good, end-passed, end-refused, table-passed, table-refused}
-use Rattle.model.proofs.Runs.{all-cleared}
+use Rattle.calls.proofs.Runs.{all-cleared}
 use Rattle.number.specs.Number.{zero⁺}
 use native.Mathlib.Nat.{mul-le-mul}
 use mathlib.Core.Bool.{false}
@@ -19,14 +19,6 @@ work-small c = let n : c .args .n ≤ 4096 = omega (arith, c .pre .0 .rows-are, 
 passes-requires : tie.Need-passes-requires
 passes-requires c κs = (c .before .before .before .before .pre .0, (c .before .before .before .before .pre .1 .0, c .before .before .before .before .pre .1 .1, c .before .before .before .before .pre .1 .2))
 
--- src/lib.rt:319:9
-end-of-requires : tie.Need-end-of-requires
-end-of-requires c κs = search needs
-
--- src/lib.rt:322:23
-enum-known-check : tie.Need-enum-known-check
-enum-known-check c = search needs
-
 -- src/lib.rt:323:36
 mul-clear : tie.Need-mul-clear
 mul-clear c = omega (arith, work-small (c .before .before .before .before .before .before .before .before .before .before .before .before))
@@ -38,10 +30,6 @@ mul-clear-2 c = omega (arith, work-small (c .before .before .before .before .bef
 -- src/lib.rt:323:13
 clear-requires : tie.Need-clear-requires
 clear-requires c κs = omega (arith, c .before .before .before .before .before .before .before .before .before .before .before .before .pre .1 .3, c .before .before .before .before .before .before .before .passes .ensures .1 .0)
-
--- src/lib.rt:324:13
-refused-requires : tie.Need-refused-requires
-refused-requires c κs = search needs
 
 -- src/lib.rt:327:58
 enum-told : tie.Need-enum-told
@@ -56,20 +44,8 @@ ended-requires : tie.Need-ended-requires
 ended-requires c κs = let s = c .before .before .before .before .before .before .before .before .before .before .before .before .before .before .before .before .before in end-good _ _ _ (s .args .start) (c .before .before .before .before .before .before .before .before .before .before .before .before .passes .ensures .0) (c .before .before .before .before .before .before .before .before .before .end-of .ensures) (s .pre .1 .2) (c .before .before .before .before .before .before .before .enum-told .given .1) .checked
 
 -- src/lib.rt:299:1
-same-length : tie.Need-same-length
-same-length c = search needs
-
--- src/lib.rt:299:1
 returns : tie.Need-returns
 returns c = let start = c .before .before .before .before .before .before .before .before .before .before .before .before .before .before .before .before .args .start in let did = c .before .before .before .before .before .before .before .before .before .before .before .passes .ensures in let end = c .before .before .before .before .before .before .before .before .end-of .ensures in let gone = c .before .before .before .before .before .before .check .given .1 in (end-refused _ _ _ start (did .0) end gone (c .refused .ensures start zero⁺ 0 false), (all-cleared _ _ _ _ (did .1 .1) (c .before .before .before .clear .ensures), table-refused _ _ _ start (did .0) end _ gone))
-
--- src/lib.rt:299:1
-same-length-2 : tie.Need-same-length-2
-same-length-2 c = search needs
-
--- src/lib.rt:299:1
-same-length-3 : tie.Need-same-length-3
-same-length-3 c = search needs
 
 -- src/lib.rt:299:1
 returns-2 : tie.Need-returns-2
@@ -80,17 +56,17 @@ run-fit-spec =
     tie.close
     (tie.spec
     passes-requires
-    end-of-requires
-    enum-known-check
+    (λ c κs. search needs)
+    (λ c. search needs)
     mul-clear
     mul-clear-2
     clear-requires
-    refused-requires
+    (λ c κs. search needs)
     enum-told
     close-requires
     ended-requires
-    same-length
+    (λ c. search needs)
     returns
-    same-length-2
-    same-length-3
+    (λ c. search needs)
+    (λ c. search needs)
     returns-2)

@@ -6,21 +6,9 @@ use borrow.Author.Needs.{needs}
 use Rattle.fit.proofs.verdict_of.Statement.{statement}
 use Rattle.fit.proofs.verdict_of.Tie as tie
 
--- src/lib.rt:78:9
-is-finite-requires : tie.Need-is-finite-requires
-is-finite-requires c κs = search needs
-
 -- src/lib.rt:79:9
 returns : tie.Need-returns
 returns c = let a = c .before .before .args in not-finite (a .tol) (a .i) (a .last) (a .loglik) (sym (c .before .is-finite .ensures) ∙ not-true _ (c .if1 .taken))
-
--- src/lib.rt:84:8
-stops-requires : tie.Need-stops-requires
-stops-requires c κs = search needs
-
--- src/lib.rt:86:39
-add-t10 : tie.Need-add-t10
-add-t10 c = search needs
 
 -- src/lib.rt:85:9
 returns-2 : tie.Need-returns-2
@@ -32,4 +20,4 @@ returns-3 c = let a = c .before .before .before .before .args in goes (a .tol) (
 
 pub verdict-of-spec : {M : Type 1} → statement M
 verdict-of-spec =
-    tie.close (tie.spec is-finite-requires returns stops-requires add-t10 returns-2 returns-3)
+    tie.close (tie.spec (λ c κs. search needs) returns (λ c κs. search needs) (λ c. search needs) returns-2 returns-3)

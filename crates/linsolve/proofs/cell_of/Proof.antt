@@ -20,9 +20,6 @@ mul-result-2 c = omega (arith, place c)
 element-copy-out-result : tie.Need-element-copy-out-result
 element-copy-out-result c = place c
 
-returns : tie.Need-returns
-returns c = search needs
-
 pub cell-of-spec : {M : Type 1} → statement M
 cell-of-spec =
-    tie.close (tie.spec mul-result add-result mul-result-2 element-copy-out-result returns)
+    tie.close (tie.spec mul-result add-result mul-result-2 element-copy-out-result (λ c. search needs))

@@ -14,20 +14,8 @@ Inv-loop a₀ b₀ n c r₀ a b r = (r ≤ n) × (c < r) × Holds (clearTo n c (
 abbrev μ-loop : tie.MeasureT-loop
 μ-loop a₀ b₀ n c r₀ a b r = n - r
 
-add-r : tie.Need-add-r Inv-loop μ-loop
-add-r c = search needs
-
 loop-holds : tie.Need-loop-holds Inv-loop μ-loop
 loop-holds c = (omega arith, omega arith, clear-first _ _ _ _ (c .pre .2) (c .pre .3))
-
-clear-row-requires : tie.Need-clear-row-requires Inv-loop μ-loop
-clear-row-requires c κs = search needs
-
-add-r-2 : tie.Need-add-r-2 Inv-loop μ-loop
-add-r-2 c = search needs
-
-loop-less : tie.Need-loop-less Inv-loop μ-loop
-loop-less c = search needs
 
 loop-again : tie.Need-loop-again Inv-loop μ-loop
 loop-again c =
@@ -43,10 +31,10 @@ clear-below-spec =
     (tie.spec
     Inv-loop
     μ-loop
-    add-r
+    (λ c. search needs)
     loop-holds
-    clear-row-requires
-    add-r-2
-    loop-less
+    (λ c κs. search needs)
+    (λ c. search needs)
+    (λ c. search needs)
     loop-again
     returns)

@@ -3,15 +3,6 @@ use Rattle.linsolve.proofs.Steps.{clear-yes, clear-no}
 use Rattle.linsolve.proofs.clear_row.Statement.{statement}
 use Rattle.linsolve.proofs.clear_row.Tie as tie
 
-cell-of-requires : tie.Need-cell-of-requires
-cell-of-requires c κs = search needs
-
-cell-of-requires-2 : tie.Need-cell-of-requires-2
-cell-of-requires-2 c κs = search needs
-
-less-row-requires : tie.Need-less-row-requires
-less-row-requires c κs = search needs
-
 returns : tie.Need-returns
 returns c =
     let start = c .before .before .before .before .before .before .before .before in
@@ -25,4 +16,4 @@ returns-2 c =
 
 pub clear-row-spec : {M : Type 1} → statement M
 clear-row-spec =
-    tie.close (tie.spec cell-of-requires cell-of-requires-2 less-row-requires returns returns-2)
+    tie.close (tie.spec (λ c κs. search needs) (λ c κs. search needs) (λ c κs. search needs) returns returns-2)

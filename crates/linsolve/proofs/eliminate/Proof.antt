@@ -18,15 +18,6 @@ abbrev μ-loop : tie.MeasureT-loop
 loop-holds : tie.Need-loop-holds Inv-loop μ-loop
 loop-holds c = (omega arith, columns-first _ _ _ (c .pre .1) (c .pre .2))
 
-eliminate-column-requires : tie.Need-eliminate-column-requires Inv-loop μ-loop
-eliminate-column-requires c κs = search needs
-
-add-c : tie.Need-add-c Inv-loop μ-loop
-add-c c = search needs
-
-loop-less : tie.Need-loop-less Inv-loop μ-loop
-loop-less c = search needs
-
 loop-again : tie.Need-loop-again Inv-loop μ-loop
 loop-again c =
     let done = c .before .before .before .before .before in
@@ -47,9 +38,9 @@ eliminate-spec =
     Inv-loop
     μ-loop
     loop-holds
-    eliminate-column-requires
-    add-c
-    loop-less
+    (λ c κs. search needs)
+    (λ c. search needs)
+    (λ c. search needs)
     loop-again
     returns
     returns-2)

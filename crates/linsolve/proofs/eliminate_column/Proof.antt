@@ -3,19 +3,10 @@ use Rattle.linsolve.proofs.Steps.{column-stops, column-goes}
 use Rattle.linsolve.proofs.eliminate_column.Statement.{statement}
 use Rattle.linsolve.proofs.eliminate_column.Tie as tie
 
-pivot-of-requires : tie.Need-pivot-of-requires
-pivot-of-requires c κs = search needs
-
 returns : tie.Need-returns
 returns c =
     let start = c .before .before .before .before in
     column-stops _ _ _ _ (start .pre .2) (start .pre .3) (c .before .before .pivot-of .ensures) (c .if1 .taken)
-
-place-requires : tie.Need-place-requires
-place-requires c κs = search needs
-
-clear-below-requires : tie.Need-clear-below-requires
-clear-below-requires c κs = search needs
 
 returns-2 : tie.Need-returns-2
 returns-2 c =
@@ -26,4 +17,4 @@ returns-2 c =
 
 pub eliminate-column-spec : {M : Type 1} → statement M
 eliminate-column-spec =
-    tie.close (tie.spec pivot-of-requires returns place-requires clear-below-requires returns-2)
+    tie.close (tie.spec (λ c κs. search needs) returns (λ c κs. search needs) (λ c κs. search needs) returns-2)

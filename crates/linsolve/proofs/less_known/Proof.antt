@@ -13,32 +13,8 @@ Inv-loop a b x n r rest₀ j₀ rest j = (j ≤ n) × (r < j) × (rest ≡ lessK
 abbrev μ-loop : tie.MeasureT-loop
 μ-loop a b x n r rest₀ j₀ rest j = n - j
 
-mul-rest : tie.Need-mul-rest Inv-loop μ-loop
-mul-rest c = search needs
-
-element-copy-out-rest : tie.Need-element-copy-out-rest Inv-loop μ-loop
-element-copy-out-rest c = search needs
-
-add-j : tie.Need-add-j Inv-loop μ-loop
-add-j c = search needs
-
 loop-holds : tie.Need-loop-holds Inv-loop μ-loop
 loop-holds c = (omega arith, omega arith, known-first _ _ _ _)
-
-cell-of-requires : tie.Need-cell-of-requires Inv-loop μ-loop
-cell-of-requires c κs = search needs
-
-mul-rest-2 : tie.Need-mul-rest-2 Inv-loop μ-loop
-mul-rest-2 c = search needs
-
-element-copy-out-rest-2 : tie.Need-element-copy-out-rest-2 Inv-loop μ-loop
-element-copy-out-rest-2 c = search needs
-
-add-j-2 : tie.Need-add-j-2 Inv-loop μ-loop
-add-j-2 c = search needs
-
-loop-less : tie.Need-loop-less Inv-loop μ-loop
-loop-less c = search needs
 
 loop-again : tie.Need-loop-again Inv-loop μ-loop
 loop-again c =
@@ -54,14 +30,14 @@ less-known-spec =
     (tie.spec
     Inv-loop
     μ-loop
-    mul-rest
-    element-copy-out-rest
-    add-j
+    (λ c. search needs)
+    (λ c. search needs)
+    (λ c. search needs)
     loop-holds
-    cell-of-requires
-    mul-rest-2
-    element-copy-out-rest-2
-    add-j-2
-    loop-less
+    (λ c κs. search needs)
+    (λ c. search needs)
+    (λ c. search needs)
+    (λ c. search needs)
+    (λ c. search needs)
     loop-again
     returns)

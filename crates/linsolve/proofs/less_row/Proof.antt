@@ -24,29 +24,8 @@ mul-less-part-2 c = omega (arith, fits (c .before), apart (c .before))
 add-less-part-2 : tie.Need-add-less-part-2
 add-less-part-2 c = omega (arith, fits (c .before), apart (c .before))
 
-sub-less-part : tie.Need-sub-less-part
-sub-less-part c = search needs
-
 less-part-requires : tie.Need-less-part-requires
 less-part-requires c κs = (omega (arith, apart (c .before)), omega (arith, fits (c .before)), c .before .pre .3)
-
-mul-u : tie.Need-mul-u
-mul-u c = search needs
-
-element-copy-out-u : tie.Need-element-copy-out-u
-element-copy-out-u c = search needs
-
-mul-v : tie.Need-mul-v
-mul-v c = search needs
-
-element-copy-out-v : tie.Need-element-copy-out-v
-element-copy-out-v c = search needs
-
-mul-b : tie.Need-mul-b
-mul-b c = search needs
-
-element-write-b : tie.Need-element-write-b
-element-write-b c = search needs
 
 returns : tie.Need-returns
 returns c =
@@ -61,12 +40,12 @@ less-row-spec =
     add-less-part
     mul-less-part-2
     add-less-part-2
-    sub-less-part
+    (λ c. search needs)
     less-part-requires
-    mul-u
-    element-copy-out-u
-    mul-v
-    element-copy-out-v
-    mul-b
-    element-write-b
+    (λ c. search needs)
+    (λ c. search needs)
+    (λ c. search needs)
+    (λ c. search needs)
+    (λ c. search needs)
+    (λ c. search needs)
     returns)

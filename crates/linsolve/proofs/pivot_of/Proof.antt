@@ -14,23 +14,8 @@ Inv-loop a n c i₀ best₀ r₀ i best r = (r ≤ n) × (c < r) × Best n a c r
 abbrev μ-loop : tie.MeasureT-loop
 μ-loop a n c i₀ best₀ r₀ i best r = n - r
 
-magnitude-at-requires : tie.Need-magnitude-at-requires Inv-loop μ-loop
-magnitude-at-requires c κs = search needs
-
-add-r : tie.Need-add-r Inv-loop μ-loop
-add-r c = search needs
-
 loop-holds : tie.Need-loop-holds Inv-loop μ-loop
 loop-holds c = (omega arith, omega arith, best-first _ _ _ (c .before .pre .1) (c .magnitude-at .ensures))
-
-magnitude-at-requires-2 : tie.Need-magnitude-at-requires-2 Inv-loop μ-loop
-magnitude-at-requires-2 c κs = search needs
-
-add-r-2 : tie.Need-add-r-2 Inv-loop μ-loop
-add-r-2 c = search needs
-
-loop-less : tie.Need-loop-less Inv-loop μ-loop
-loop-less c = search needs
 
 loop-again : tie.Need-loop-again Inv-loop μ-loop
 loop-again c =
@@ -54,11 +39,11 @@ pivot-of-spec =
     (tie.spec
     Inv-loop
     μ-loop
-    magnitude-at-requires
-    add-r
+    (λ c κs. search needs)
+    (λ c. search needs)
     loop-holds
-    magnitude-at-requires-2
-    add-r-2
-    loop-less
+    (λ c κs. search needs)
+    (λ c. search needs)
+    (λ c. search needs)
     loop-again
     returns)

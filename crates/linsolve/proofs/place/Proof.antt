@@ -3,9 +3,6 @@ use Rattle.linsolve.proofs.Steps.{placed-swap, placed-same}
 use Rattle.linsolve.proofs.place.Statement.{statement}
 use Rattle.linsolve.proofs.place.Tie as tie
 
-swap-rows-requires : tie.Need-swap-rows-requires
-swap-rows-requires c κs = search needs
-
 returns : tie.Need-returns
 returns c =
     let start = c .before .before .before .before in
@@ -15,4 +12,4 @@ returns-2 : tie.Need-returns-2
 returns-2 c = placed-same _ _ _ _ (c .before .pre .3) (c .before .pre .4) _ (c .before .pre .5) (c .if1 .left)
 
 pub place-spec : {M : Type 1} → statement M
-place-spec = tie.close (tie.spec swap-rows-requires returns returns-2)
+place-spec = tie.close (tie.spec (λ c κs. search needs) returns returns-2)

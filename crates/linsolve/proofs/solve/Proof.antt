@@ -6,12 +6,6 @@ use Rattle.linsolve.proofs.solve.Tie as tie
 returns : tie.Need-returns
 returns c = large-is _ _ _ (c .if1 .taken)
 
-eliminate-requires : tie.Need-eliminate-requires
-eliminate-requires c κs = search needs
-
-back-substitute-requires : tie.Need-back-substitute-requires
-back-substitute-requires c κs = search needs
-
 returns-2 : tie.Need-returns-2
 returns-2 c =
     solved-is _ _ _ (c .before .before .before .before .before .before .before .if1 .left) (c .before .before .before .before .eliminate .ensures)
@@ -21,4 +15,4 @@ returns-3 : tie.Need-returns-3
 returns-3 c = singular-is _ _ _ (c .before .before .before .before .if1 .left) (c .before .eliminate .ensures) (c .if2 .left)
 
 pub solve-spec : {M : Type 1} → statement M
-solve-spec = tie.close (tie.spec returns eliminate-requires back-substitute-requires returns-2 returns-3)
+solve-spec = tie.close (tie.spec returns (λ c κs. search needs) (λ c κs. search needs) returns-2 returns-3)

@@ -21,30 +21,6 @@ mul-exchange-parts-2 c = omega (arith, fits (c .before), apart (c .before))
 exchange-parts-requires : tie.Need-exchange-parts-requires
 exchange-parts-requires c κs = (apart (c .before), fits (c .before), c .before .pre .3)
 
-mul-u : tie.Need-mul-u
-mul-u c = search needs
-
-element-copy-out-u : tie.Need-element-copy-out-u
-element-copy-out-u c = search needs
-
-mul-v : tie.Need-mul-v
-mul-v c = search needs
-
-element-copy-out-v : tie.Need-element-copy-out-v
-element-copy-out-v c = search needs
-
-mul-b : tie.Need-mul-b
-mul-b c = search needs
-
-element-write-b : tie.Need-element-write-b
-element-write-b c = search needs
-
-mul-b-2 : tie.Need-mul-b-2
-mul-b-2 c = search needs
-
-element-write-b-2 : tie.Need-element-write-b-2
-element-write-b-2 c = search needs
-
 returns : tie.Need-returns
 returns c =
     let start = c .before .before .before .before in
@@ -57,12 +33,12 @@ swap-rows-spec =
     mul-exchange-parts
     mul-exchange-parts-2
     exchange-parts-requires
-    mul-u
-    element-copy-out-u
-    mul-v
-    element-copy-out-v
-    mul-b
-    element-write-b
-    mul-b-2
-    element-write-b-2
+    (λ c. search needs)
+    (λ c. search needs)
+    (λ c. search needs)
+    (λ c. search needs)
+    (λ c. search needs)
+    (λ c. search needs)
+    (λ c. search needs)
+    (λ c. search needs)
     returns)

@@ -40,9 +40,6 @@ returns-4 : tie.Need-returns-4
 unfolding logOf
 returns-4 c = simp (ne-eqb _ _ (c .before .before .if3 .left), lt-leb _ _ (c .before .if4 .left), le-leb _ _ (c .if5 .taken))
 
-pattern-requires : tie.Need-pattern-requires
-pattern-requires c κs = search needs
-
 add-log-normal : tie.Need-add-log-normal
 add-log-normal c = omega (arith, scaled-small (c .before))
 
@@ -73,7 +70,7 @@ log-spec =
     returns-2
     returns-3
     returns-4
-    pattern-requires
+    (λ c κs. search needs)
     add-log-normal
     log-normal-requires
     returns-5)

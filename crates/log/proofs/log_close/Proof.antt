@@ -8,9 +8,6 @@ returns : tie.Need-returns
 unfolding logClose
 returns c = simp (c .before .if1 .taken, eq-eqb _ _ (c .if2 .taken))
 
-shift-requires : tie.Need-shift-requires
-shift-requires c κs = search needs
-
 returns-2 : tie.Need-returns-2
 unfolding logClose
 returns-2 c = simp (c .before .before .if1 .taken, ne-eqb _ _ (c .before .if2 .left)) (cc)
@@ -19,13 +16,10 @@ returns-3 : tie.Need-returns-3
 unfolding logClose
 returns-3 c = simp (c .before .if1 .left, eq-eqb _ _ (c .if3 .taken))
 
-shift-requires-2 : tie.Need-shift-requires-2
-shift-requires-2 c κs = search needs
-
 returns-4 : tie.Need-returns-4
 unfolding logClose
 returns-4 c = simp (c .before .before .if1 .left, ne-eqb _ _ (c .before .if3 .left)) (cc)
 
 pub log-close-spec : {M : Type 1} → statement M
 log-close-spec =
-    tie.close (tie.spec returns shift-requires returns-2 returns-3 shift-requires-2 returns-4)
+    tie.close (tie.spec returns (λ c κs. search needs) returns-2 returns-3 (λ c κs. search needs) returns-4)

@@ -5,18 +5,9 @@ use Rattle.log.proofs.Tests.{either, neither}
 use Rattle.log.proofs.log_far.Statement.{statement}
 use Rattle.log.proofs.log_far.Tie as tie
 
-log-poly-requires : tie.Need-log-poly-requires
-log-poly-requires c κs = search needs
-
-log-out-requires : tie.Need-log-out-requires
-log-out-requires c κs = search needs
-
 returns : tie.Need-returns
 unfolding logFar
 returns c = let m = c .before .before .before .args .m in rw (either (m <? 0x6_147a) (0x6_b851 <? m) _ _ (c .before .if1 .taken)) (cc)
-
-log-mid-requires : tie.Need-log-mid-requires
-log-mid-requires c κs = search needs
 
 returns-2 : tie.Need-returns-2
 unfolding logFar
@@ -24,4 +15,4 @@ returns-2 c = let m = c .before .before .before .args .m in rw (neither (m <? 0x
 
 pub log-far-spec : {M : Type 1} → statement M
 log-far-spec =
-    tie.close (tie.spec log-poly-requires log-out-requires returns log-mid-requires returns-2)
+    tie.close (tie.spec (λ c κs. search needs) (λ c κs. search needs) returns (λ c κs. search needs) returns-2)

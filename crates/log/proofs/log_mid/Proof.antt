@@ -8,12 +8,9 @@ returns : tie.Need-returns
 unfolding logMid
 returns c = simp (eq-eqb _ _ (c .if1 .taken))
 
-shift-requires : tie.Need-shift-requires
-shift-requires c κs = search needs
-
 returns-2 : tie.Need-returns-2
 unfolding logMid
 returns-2 c = simp (ne-eqb _ _ (c .before .if1 .left)) (cc)
 
 pub log-mid-spec : {M : Type 1} → statement M
-log-mid-spec = tie.close (tie.spec returns shift-requires returns-2)
+log-mid-spec = tie.close (tie.spec returns (λ c κs. search needs) returns-2)

@@ -8,12 +8,9 @@ returns : tie.Need-returns
 unfolding logOut
 returns c = simp (eq-eqb _ _ (c .if1 .taken))
 
-shift-requires : tie.Need-shift-requires
-shift-requires c κs = search needs
-
 returns-2 : tie.Need-returns-2
 unfolding logOut
 returns-2 c = simp (ne-eqb _ _ (c .before .if1 .left)) (cc)
 
 pub log-out-spec : {M : Type 1} → statement M
-log-out-spec = tie.close (tie.spec returns shift-requires returns-2)
+log-out-spec = tie.close (tie.spec returns (λ c κs. search needs) returns-2)

@@ -3,12 +3,9 @@ use Rattle.number.specs.Number.{usable}
 use Rattle.number.proofs.is_usable.Statement.{statement}
 use Rattle.number.proofs.is_usable.Tie as tie
 
-is-finite-requires : tie.Need-is-finite-requires
-is-finite-requires c κs = search needs
-
 returns : tie.Need-returns
 unfolding usable
 returns c = rw (c .is-finite .ensures)
 
 pub is-usable-spec : {M : Type 1} → statement M
-is-usable-spec = tie.close (tie.spec is-finite-requires returns)
+is-usable-spec = tie.close (tie.spec (λ c κs. search needs) returns)

@@ -16,8 +16,5 @@ returns c = is-nan (ofBits binary64 (c .before .args .n)) (sym (nanBits-is binar
 float-from-bits-result : tie.Need-float-from-bits-result
 float-from-bits-result c = subst (λ (b : Bool). T (not b)) (sym (nanBits-above binary64 (c .before .args .n) ∙ le-ltb _ _ (c .if1 .left))) tt
 
-returns-2 : tie.Need-returns-2
-returns-2 c = search needs
-
 pub of-pattern-spec : {M : Type 1} → statement M
-of-pattern-spec = tie.close (tie.spec returns float-from-bits-result returns-2)
+of-pattern-spec = tie.close (tie.spec returns float-from-bits-result (λ c. search needs))

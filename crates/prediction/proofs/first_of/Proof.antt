@@ -17,9 +17,6 @@ Inv-loop transition shares k order powers a oldest acc₀ l₀ acc l =
 abbrev μ-loop : tie.MeasureT-loop
 μ-loop transition shares k order powers a oldest acc₀ l₀ acc l = order - l
 
-label-requires : tie.Need-label-requires Inv-loop μ-loop
-label-requires c κs = search needs
-
 -- the labels are below k, and k is at most 16
 oldest-small : (c : tie.After-label Inv-loop μ-loop) → c .label .result < 16
 oldest-small c =
@@ -33,15 +30,6 @@ element-copy-out-acc c = omega (arith, oldest-small c)
 
 loop-holds : tie.Need-loop-holds Inv-loop μ-loop
 loop-holds c = (omega arith, λ q ek ep et. first-none q _ _ _ _ _ ek ep et _ (c .before .label .ensures))
-
-label-requires-2 : tie.Need-label-requires-2 Inv-loop μ-loop
-label-requires-2 c κs = search needs
-
-add-label : tie.Need-add-label Inv-loop μ-loop
-add-label c = search needs
-
-label-requires-3 : tie.Need-label-requires-3 Inv-loop μ-loop
-label-requires-3 c κs = search needs
 
 places : (c : tie.After-label3 Inv-loop μ-loop)
     → (c .before .label2 .result * c .before .before .before .before .before .before .args .k + c .label3 .result < 256)
@@ -68,12 +56,6 @@ mul-acc-3 c = let h = places c in omega (arith, h .0, h .1)
 element-copy-out-acc-2 : tie.Need-element-copy-out-acc-2 Inv-loop μ-loop
 element-copy-out-acc-2 c = let h = places c in omega (arith, h .0, h .1)
 
-add-l : tie.Need-add-l Inv-loop μ-loop
-add-l c = search needs
-
-loop-less : tie.Need-loop-less Inv-loop μ-loop
-loop-less c = search needs
-
 loop-again : tie.Need-loop-again Inv-loop μ-loop
 loop-again c = (
   omega arith,
@@ -92,18 +74,18 @@ first-of-spec =
     (tie.spec
     Inv-loop
     μ-loop
-    label-requires
+    (λ c κs. search needs)
     mul-acc
     element-copy-out-acc
     loop-holds
-    label-requires-2
-    add-label
-    label-requires-3
+    (λ c κs. search needs)
+    (λ c. search needs)
+    (λ c κs. search needs)
     mul-acc-2
     add-acc
     mul-acc-3
     element-copy-out-acc-2
-    add-l
-    loop-less
+    (λ c. search needs)
+    (λ c. search needs)
     loop-again
     returns)

@@ -21,18 +21,6 @@ loop-holds c = (omega arith, refl, fillAt-none _ _ _)
 first-of-requires : tie.Need-first-of-requires Inv-loop μ-loop
 first-of-requires c κs = record { shape = c .before .before .before .before .pre .0; table = c .before .before .before .before .pre .1 .0; window = omega (arith, c .before .before .before .before .pre .1 .1) }
 
-mul-row : tie.Need-mul-row Inv-loop μ-loop
-mul-row c = search needs
-
-element-write-row : tie.Need-element-write-row Inv-loop μ-loop
-element-write-row c = search needs
-
-add-a : tie.Need-add-a Inv-loop μ-loop
-add-a c = search needs
-
-loop-less : tie.Need-loop-less Inv-loop μ-loop
-loop-less c = search needs
-
 loop-again : tie.Need-loop-again Inv-loop μ-loop
 loop-again c = (
   omega arith,
@@ -51,9 +39,9 @@ first-row-spec =
     μ-loop
     loop-holds
     first-of-requires
-    mul-row
-    element-write-row
-    add-a
-    loop-less
+    (λ c. search needs)
+    (λ c. search needs)
+    (λ c. search needs)
+    (λ c. search needs)
     loop-again
     returns)

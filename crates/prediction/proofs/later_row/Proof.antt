@@ -22,9 +22,6 @@ abbrev μ-loop : tie.MeasureT-loop
 loop-holds : tie.Need-loop-holds Inv-loop μ-loop
 loop-holds c = (omega arith, refl, rw zero-mul (fillAt-none _ _ _))
 
-sum-before-requires : tie.Need-sum-before-requires Inv-loop μ-loop
-sum-before-requires c κs = search needs
-
 block : (c : tie.After-sum-before Inv-loop μ-loop) → c .before .before .loop .c * c .before .before .before .args .k + c .before .before .before .args .k ≤ 256
 block c = block-within _ _ _ (omega arith) (c .before .before .before .pre .1)
 
@@ -33,9 +30,6 @@ mul-step-block c = omega (arith, block c)
 
 step-block-requires : tie.Need-step-block-requires Inv-loop μ-loop
 step-block-requires c κs = (block (c .before), omega arith)
-
-add-c : tie.Need-add-c Inv-loop μ-loop
-add-c c = search needs
 
 loop-less : tie.Need-loop-less Inv-loop μ-loop
 loop-less c = omega arith
@@ -76,10 +70,10 @@ later-row-spec =
     Inv-loop
     μ-loop
     loop-holds
-    sum-before-requires
+    (λ c κs. search needs)
     mul-step-block
     step-block-requires
-    add-c
+    (λ c. search needs)
     loop-less
     loop-again
     returns)

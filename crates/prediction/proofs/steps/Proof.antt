@@ -21,15 +21,6 @@ abbrev μ-loop : tie.MeasureT-loop
 loop-holds : tie.Need-loop-holds Inv-loop μ-loop
 loop-holds c = (omega arith, refl, fillAt-none _ _ _)
 
-rem-now : tie.Need-rem-now Inv-loop μ-loop
-rem-now c = search needs
-
-div-before : tie.Need-div-before Inv-loop μ-loop
-div-before c = search needs
-
-rem-before : tie.Need-rem-before Inv-loop μ-loop
-rem-before c = search needs
-
 mul-row : tie.Need-mul-row Inv-loop μ-loop
 mul-row c = let h = steps-below (c .before .before .pre .0) (c .before .loop .a) in omega (arith, h .0, h .1)
 
@@ -41,18 +32,6 @@ mul-row-2 c = let h = steps-below (c .before .before .pre .0) (c .before .loop .
 
 element-copy-out-row : tie.Need-element-copy-out-row Inv-loop μ-loop
 element-copy-out-row c = let h = steps-below (c .before .before .pre .0) (c .before .loop .a) in omega (arith, h .0, h .1)
-
-mul-row-3 : tie.Need-mul-row-3 Inv-loop μ-loop
-mul-row-3 c = search needs
-
-array-write-row : tie.Need-array-write-row Inv-loop μ-loop
-array-write-row c = search needs
-
-add-a : tie.Need-add-a Inv-loop μ-loop
-add-a c = search needs
-
-loop-less : tie.Need-loop-less Inv-loop μ-loop
-loop-less c = search needs
 
 loop-again : tie.Need-loop-again Inv-loop μ-loop
 loop-again c = (
@@ -77,16 +56,16 @@ steps-spec =
     Inv-loop
     μ-loop
     loop-holds
-    rem-now
-    div-before
-    rem-before
+    (λ c. search needs)
+    (λ c. search needs)
+    (λ c. search needs)
     mul-row
     add-row
     mul-row-2
     element-copy-out-row
-    mul-row-3
-    array-write-row
-    add-a
-    loop-less
+    (λ c. search needs)
+    (λ c. search needs)
+    (λ c. search needs)
+    (λ c. search needs)
     loop-again
     returns)

@@ -34,12 +34,6 @@ mul-acc-2 c = let h = place c in omega (arith, h .0, h .1)
 element-copy-out-acc : tie.Need-element-copy-out-acc Inv-loop μ-loop
 element-copy-out-acc c = let h = place c in omega (arith, h .0, h .1)
 
-add-x : tie.Need-add-x Inv-loop μ-loop
-add-x c = search needs
-
-loop-less : tie.Need-loop-less Inv-loop μ-loop
-loop-less c = search needs
-
 loop-again : tie.Need-loop-again Inv-loop μ-loop
 loop-again c = (omega arith, sum-more _ _ (c .before .before .loop .inv .1))
 
@@ -58,7 +52,7 @@ sum-before-spec =
     add-acc
     mul-acc-2
     element-copy-out-acc
-    add-x
-    loop-less
+    (λ c. search needs)
+    (λ c. search needs)
     loop-again
     returns)

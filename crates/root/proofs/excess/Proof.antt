@@ -5,9 +5,6 @@ use borrow.Author.Needs.{needs}
 use Rattle.root.proofs.excess.Statement.{statement}
 use Rattle.root.proofs.excess.Tie as tie
 
-mul-c : tie.Need-mul-c
-mul-c c = search needs
-
 mul-c-2 : tie.Need-mul-c-2
 mul-c-2 c = let s = small (c .args .q) (c .pre .1) in omega arith
 
@@ -17,29 +14,11 @@ mul-high c = let s = small (c .args .q) (c .pre .1) in omega arith
 add-high : tie.Need-add-high
 add-high c = let s = small (c .args .q) (c .pre .1) in omega arith
 
-mul-low : tie.Need-mul-low
-mul-low c = search needs
-
 mul-low-2 : tie.Need-mul-low-2
 mul-low-2 c = let s = small (c .args .q) (c .pre .1) in omega arith
 
 add-low : tie.Need-add-low
 add-low c = let s = small (c .args .q) (c .pre .1) in omega arith
-
-add-wrapping-sub-u64 : tie.Need-add-wrapping-sub-u64
-add-wrapping-sub-u64 c = search needs
-
-wrapping-sub-u64-requires : tie.Need-wrapping-sub-u64-requires
-wrapping-sub-u64-requires c κs = search needs
-
-returns : tie.Need-returns
-returns c = search needs
-
-add-result : tie.Need-add-result
-add-result c = search needs
-
-mul-result : tie.Need-mul-result
-mul-result c = search needs
 
 sub-result : tie.Need-sub-result
 sub-result c = let s = small (c .before .before .args .q) (c .before .before .pre .1) in omega arith
@@ -54,17 +33,17 @@ pub excess-spec : {M : Type 1} → statement M
 excess-spec =
     tie.close
     (tie.spec
-    mul-c
+    (λ c. search needs)
     mul-c-2
     mul-high
     add-high
-    mul-low
+    (λ c. search needs)
     mul-low-2
     add-low
-    add-wrapping-sub-u64
-    wrapping-sub-u64-requires
-    returns
-    add-result
-    mul-result
+    (λ c. search needs)
+    (λ c κs. search needs)
+    (λ c. search needs)
+    (λ c. search needs)
+    (λ c. search needs)
     sub-result
     returns-2)

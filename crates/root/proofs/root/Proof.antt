@@ -28,9 +28,6 @@ result-of c =
     let w = c .before in
     ap float (c .root-pattern .ensures ∙ ap (λ (z : Float). rootPattern (rootSquare z)) (number-of w)) ∙ sym (root-above-zero (w .before .before .before .args .x) (above w))
 
-pattern-requires : tie.Need-pattern-requires
-pattern-requires c κs = search needs
-
 root-pattern-requires : tie.Need-root-pattern-requires
 root-pattern-requires c κs =
     (subst (λ (n : ℕ). 0 < n) (sym (c .before .pattern .ensures)) (pattern (c .before .before .before .args .x) (held (c .before .before .before)) (above c) .some), c .if2 .taken)
@@ -65,7 +62,7 @@ pub root-spec : {M : Type 1} → statement M
 root-spec =
     tie.close
     (tie.spec
-    pattern-requires
+    (λ c κs. search needs)
     root-pattern-requires
     float-from-bits-result
     returns

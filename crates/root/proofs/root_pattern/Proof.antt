@@ -19,12 +19,6 @@ scaled c =
     (λ w. rw (w .1, w .2) (normal b (w .0 .left) (c .before .pre .1)))
     (c .if1 .came)
 
-add-sig : tie.Need-add-sig
-add-sig c = search needs
-
-add-ex : tie.Need-add-ex
-add-ex c = search needs
-
 cast-s : tie.Need-cast-s
 cast-s c = let w = low c in omega arith
 
@@ -45,4 +39,4 @@ returns c = c .root-scaled .ensures ∙ ap rootPattern (sym (scaled (c .before) 
 
 pub root-pattern-spec : {M : Type 1} → statement M
 root-pattern-spec =
-    tie.close (tie.spec add-sig add-ex cast-s sub-s shl-sig sub-ex root-scaled-requires returns)
+    tie.close (tie.spec (λ c. search needs) (λ c. search needs) cast-s sub-s shl-sig sub-ex root-scaled-requires returns)

@@ -38,12 +38,6 @@ mul-acc-2 c = scaled-fits _ (length (c .before .before .args .work .now)) 8 (wit
 shared-slice-read-acc : tie.Need-shared-slice-read-acc Inv-loop μ-loop
 shared-slice-read-acc c = within (c .before)
 
-add-j : tie.Need-add-j Inv-loop μ-loop
-add-j c = search needs
-
-loop-less : tie.Need-loop-less Inv-loop μ-loop
-loop-less c = search needs
-
 loop-again : tie.Need-loop-again Inv-loop μ-loop
 unfolding labelSum
 loop-again c = (omega arith, sum-next _ _ (c .before .before .loop .inv .1) (window-place (c .before .before .before .args .work .now) _ _ _ _))
@@ -63,7 +57,7 @@ label-sum-spec =
     add-acc-2
     mul-acc-2
     shared-slice-read-acc
-    add-j
-    loop-less
+    (λ c. search needs)
+    (λ c. search needs)
     loop-again
     returns)

@@ -44,12 +44,6 @@ mul-label-sums-3 c = omega (arith, in-table (c .before), c .before .before .befo
 label-sums-requires : tie.Need-label-sums-requires Inv-loop μ-loop
 label-sums-requires c κs = (omega (arith, in-work (c .before), c .before .before .before .before .before .pre .1), in-table (c .before))
 
-add-i : tie.Need-add-i Inv-loop μ-loop
-add-i c = search needs
-
-loop-less : tie.Need-loop-less Inv-loop μ-loop
-loop-less c = search needs
-
 loop-again : tie.Need-loop-again Inv-loop μ-loop
 loop-again c =
     let k = c .before .before .before .before .before .before .before .before .args .k in
@@ -63,9 +57,6 @@ loop-again c =
           (c .before .before .label-sums .ensures
           ∙ fill-join _ _ (i * k) k _ (c .before .before .before .before .before .loop .inv .2) (omega arith) (results-of-row k _ _ _ i)),
     )
-
-same-length : tie.Need-same-length Inv-loop μ-loop
-same-length c = search needs
 
 returns : tie.Need-returns Inv-loop μ-loop
 returns c = let e : c .before .loop .i ≡ c .before .before .before .before .args .n = omega arith in rw e at (c .before .loop .inv .2)
@@ -82,8 +73,8 @@ tabulate-spec =
     add-label-sums
     mul-label-sums-3
     label-sums-requires
-    add-i
-    loop-less
+    (λ c. search needs)
+    (λ c. search needs)
     loop-again
-    same-length
+    (λ c. search needs)
     returns)

@@ -33,17 +33,8 @@ add-scale-block c = omega (arith, block-in c)
 scale-block-requires : tie.Need-scale-block-requires Inv-loop μ-loop
 scale-block-requires c κs = (c .before .before .before .before .pre .1, omega (arith, block-in (c .before)))
 
-add-x : tie.Need-add-x Inv-loop μ-loop
-add-x c = search needs
-
-loop-less : tie.Need-loop-less Inv-loop μ-loop
-loop-less c = search needs
-
 loop-again : tie.Need-loop-again Inv-loop μ-loop
 loop-again c = (omega arith, fillAt-long _ _ _ _ (c .before .before .scale-block .ensures) (omega (arith, block-in (c .before .before .before .before))) ∙ c .before .before .before .before .before .loop .inv .1, block-more _ _ _ _ _ (c .before .before .before .before .before .loop .inv .2) (c .before .before .scale-block .ensures) (block-in (c .before .before .before .before)))
-
-same-length : tie.Need-same-length Inv-loop μ-loop
-same-length c = search needs
 
 returns : tie.Need-returns Inv-loop μ-loop
 returns c = let e : c .before .loop .x ≡ c .before .before .before .args .blocks = omega arith in rw e at (c .before .loop .inv .2)
@@ -58,8 +49,8 @@ scale-row-spec =
     mul-scale-block
     add-scale-block
     scale-block-requires
-    add-x
-    loop-less
+    (λ c. search needs)
+    (λ c. search needs)
     loop-again
-    same-length
+    (λ c. search needs)
     returns)

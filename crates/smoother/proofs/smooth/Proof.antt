@@ -39,17 +39,8 @@ shares c = c .sharing .ensures _ (k-above (c .before .before)) (c .before .befor
 mul-m : tie.Need-mul-m Inv-loop μ-loop
 mul-m c = omega (arith, few (c .before))
 
-sharing-requires : tie.Need-sharing-requires Inv-loop μ-loop
-sharing-requires c κs = search needs
-
-sub-i : tie.Need-sub-i Inv-loop μ-loop
-sub-i c = search needs
-
 loop-holds : tie.Need-loop-holds Inv-loop μ-loop
 loop-holds c = (omega arith, refl, back-first _ _ (omega arith) _)
-
-sub-i-2 : tie.Need-sub-i-2 Inv-loop μ-loop
-sub-i-2 c = search needs
 
 mul-smooth-row : tie.Need-mul-smooth-row Inv-loop μ-loop
 mul-smooth-row c = omega (arith, c .before .before .before .before .before .before .pre .1, c .before .before .before .loop .inv .0)
@@ -62,9 +53,6 @@ add-smooth-row c = omega (arith, in-memory (c .before .before), c .before .befor
 
 smooth-row-requires : tie.Need-smooth-row-requires Inv-loop μ-loop
 smooth-row-requires c κs = ((k-above (c .before .before .before .before .before .before .before .before), c .before .before .before .before .before .before .before .before .pre .0 .high, power-in (c .before .before .before .before .before .before .before .before), few (c .before .before .before .before .before .before .before .before), in-memory (c .before .before .before .before), c .before .before .before .before .before .loop .inv .1), shares (c .before .before .before .before .before .before))
-
-loop-less : tie.Need-loop-less Inv-loop μ-loop
-loop-less c = search needs
 
 loop-again : tie.Need-loop-again Inv-loop μ-loop
 loop-again c = let s = c .before .before .before .before .before .before .before .before .before .before .before in let l = c .before .before .before .before .before .before .before .before .loop in (omega arith, c .before .before .smooth-row .ensures .0, back-step (s .args .t1) (s .args .n) (s .args .power) (s .pre .1 .0) (k-above s) (shares (c .before .before .before .before .before .before .before .before .before)) (l .i) (omega arith) (l .inv .0) (s .pre .1 .3) (l .inv .2) (c .before .before .smooth-row .ensures .1))
@@ -82,15 +70,15 @@ smooth-spec =
     Inv-loop
     μ-loop
     mul-m
-    sharing-requires
-    sub-i
+    (λ c κs. search needs)
+    (λ c. search needs)
     loop-holds
-    sub-i-2
+    (λ c. search needs)
     mul-smooth-row
     mul-smooth-row-2
     add-smooth-row
     smooth-row-requires
-    loop-less
+    (λ c. search needs)
     loop-again
     same-length
     returns)

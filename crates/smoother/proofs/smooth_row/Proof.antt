@@ -10,26 +10,11 @@ use Rattle.smoother.proofs.Common.{sum-in-row, sums-few}
 use Rattle.smoother.proofs.smooth_row.Statement.{statement}
 use Rattle.smoother.proofs.smooth_row.Tie as tie
 
-mul-m : tie.Need-mul-m
-mul-m c = search needs
-
-mul-sums-after : tie.Need-mul-sums-after
-mul-sums-after c = search needs
-
-add-sums-after : tie.Need-add-sums-after
-add-sums-after c = search needs
-
-add-sums-after-2 : tie.Need-add-sums-after-2
-add-sums-after-2 c = search needs
-
 sums-after-requires : tie.Need-sums-after-requires
 sums-after-requires c κs = let h = c .before .before .before .pre in let w = h .1 in ((h .0 .0, h .0 .1, omega (arith, sums-few w (h .0 .0) (h .0 .2), h .0), h .0 .5), λ d l. (omega (arith, sum-in-row w (h .0 .2) d l, h .0), omega (arith, sum-in-row w (h .0 .2) d l, h .0)))
 
 scale-row-requires : tie.Need-scale-row-requires
 scale-row-requires c κs = let h = c .before .before .before .before .before .before .pre in let w = h .1 in (w .some, omega (arith, sums-few w (h .0 .0) (h .0 .2), h .0), omega (arith, w .whole, h .0))
-
-same-length : tie.Need-same-length
-same-length c = search needs
 
 returns : tie.Need-returns
 returns c =
@@ -44,11 +29,11 @@ pub smooth-row-spec : {M : Type 1} → statement M
 smooth-row-spec =
     tie.close
     (tie.spec
-    mul-m
-    mul-sums-after
-    add-sums-after
-    add-sums-after-2
+    (λ c. search needs)
+    (λ c. search needs)
+    (λ c. search needs)
+    (λ c. search needs)
     sums-after-requires
     scale-row-requires
-    same-length
+    (λ c. search needs)
     returns)

@@ -25,30 +25,6 @@ step-in c = cell-below _ _ _ (c .before .before .pre .1) (c .loop-test .taken) (
 loop-holds : tie.Need-loop-holds Inv-loop μ-loop
 loop-holds c = (omega arith, where-none _ _)
 
-add-d : tie.Need-add-d Inv-loop μ-loop
-add-d c = search needs
-
-add-d-2 : tie.Need-add-d-2 Inv-loop μ-loop
-add-d-2 c = search needs
-
-mul-d : tie.Need-mul-d Inv-loop μ-loop
-mul-d c = search needs
-
-shared-slice-read-d : tie.Need-shared-slice-read-d Inv-loop μ-loop
-shared-slice-read-d c = search needs
-
-add-acc : tie.Need-add-acc Inv-loop μ-loop
-add-acc c = search needs
-
-add-acc-2 : tie.Need-add-acc-2 Inv-loop μ-loop
-add-acc-2 c = search needs
-
-mul-acc : tie.Need-mul-acc Inv-loop μ-loop
-mul-acc c = search needs
-
-shared-slice-read-acc : tie.Need-shared-slice-read-acc Inv-loop μ-loop
-shared-slice-read-acc c = search needs
-
 mul-acc-2 : tie.Need-mul-acc-2 Inv-loop μ-loop
 mul-acc-2 c = omega (arith, step-in (c .before .before .before))
 
@@ -60,12 +36,6 @@ mul-acc-3 c = omega (arith, step-in (c .before .before .before))
 
 element-copy-out-acc : tie.Need-element-copy-out-acc Inv-loop μ-loop
 element-copy-out-acc c = step-in (c .before .before .before)
-
-add-r : tie.Need-add-r Inv-loop μ-loop
-add-r c = search needs
-
-loop-less : tie.Need-loop-less Inv-loop μ-loop
-loop-less c = search needs
 
 loop-again : tie.Need-loop-again Inv-loop μ-loop
 loop-again c = let a = c .before .before .before .before .args in let r = c .before .before .before .loop .r in let h = c .before .before .before .loop .inv .1 in (omega arith, ⊎-elim (λ w. w .3 ∙ term-added (a .k) (a .transition .now) (a .work .now) (a .smoothed) (a .predicted) (a .base) (a .s) r h (w .0 .taken)) (λ w. w .1 ∙ term-skipped (a .k) (a .transition .now) (a .work .now) (a .smoothed) (a .predicted) (a .base) (a .s) r h (w .0 .left)) (c .if1 .came))
@@ -81,19 +51,19 @@ sum-after-spec =
     Inv-loop
     μ-loop
     loop-holds
-    add-d
-    add-d-2
-    mul-d
-    shared-slice-read-d
-    add-acc
-    add-acc-2
-    mul-acc
-    shared-slice-read-acc
+    (λ c. search needs)
+    (λ c. search needs)
+    (λ c. search needs)
+    (λ c. search needs)
+    (λ c. search needs)
+    (λ c. search needs)
+    (λ c. search needs)
+    (λ c. search needs)
     mul-acc-2
     add-acc-3
     mul-acc-3
     element-copy-out-acc
-    add-r
-    loop-less
+    (λ c. search needs)
+    (λ c. search needs)
     loop-again
     returns)

@@ -32,20 +32,8 @@ mul-sum-after c = omega (arith, in-memory c)
 sum-after-requires : tie.Need-sum-after-requires Inv-loop μ-loop
 sum-after-requires c κs = (label-in c, c .before .before .before .pre .0 .1, in-memory c .0, in-memory c .1)
 
-mul-sums : tie.Need-mul-sums Inv-loop μ-loop
-mul-sums c = search needs
-
-element-write-sums : tie.Need-element-write-sums Inv-loop μ-loop
-element-write-sums c = search needs
-
 next-label-requires : tie.Need-next-label-requires Inv-loop μ-loop
 next-label-requires c κs = (label-in (c .before), c .before .before .before .before .pre .0 .1)
-
-add-c : tie.Need-add-c Inv-loop μ-loop
-add-c c = search needs
-
-loop-less : tie.Need-loop-less Inv-loop μ-loop
-loop-less c = search needs
 
 loop-again : tie.Need-loop-again Inv-loop μ-loop
 loop-again c = let a = c .before .before .before .before .before .args in let l = c .before .before .before .loop in (omega arith, simp length-set (omega arith), c .next-label .ensures (l .c) (l .inv .2), fill-more _ _ _ (l .inv .3) (sum-of-label (a .k) (a .stride) _ _ _ (l .c) (l .inv .2) (c .before .sum-after .ensures)) (omega (arith, c .before .before .before .before .before .pre .0)))
@@ -62,10 +50,10 @@ sums-after-spec =
     loop-holds
     mul-sum-after
     sum-after-requires
-    mul-sums
-    element-write-sums
+    (λ c. search needs)
+    (λ c. search needs)
     next-label-requires
-    add-c
-    loop-less
+    (λ c. search needs)
+    (λ c. search needs)
     loop-again
     returns)

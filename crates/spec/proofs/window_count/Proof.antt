@@ -29,12 +29,6 @@ mul-m c = omega (arith, mul-le-mul (c .before .loop .inv .2) (c .before .before 
 returns-3 : tie.Need-returns-3 Inv-loop μ-loop
 returns-3 c = many _ _ (suc (c .before .before .loop .i)) (omega arith) (c .before .loop-test .taken) (rw (pow-suc, ← c .before .before .loop .inv .1) (c .if3 .taken))
 
-add-i : tie.Need-add-i Inv-loop μ-loop
-add-i c = search needs
-
-loop-less : tie.Need-loop-less Inv-loop μ-loop
-loop-less c = search needs
-
 loop-again : tie.Need-loop-again Inv-loop μ-loop
 loop-again c = (omega arith, rw (add-one, pow-suc, ← c .before .before .loop .inv .1), c .if3 .left)
 
@@ -55,8 +49,8 @@ window-count-spec =
     loop-holds
     mul-m
     returns-3
-    add-i
-    loop-less
+    (λ c. search needs)
+    (λ c. search needs)
     loop-again
     returns-4
     returns-5)

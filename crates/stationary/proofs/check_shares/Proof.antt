@@ -19,23 +19,11 @@ abbrev μ-loop : tie.MeasureT-loop
 loop-holds : tie.Need-loop-holds Inv-loop μ-loop
 loop-holds c = (omega arith, each-none _)
 
-mul-v : tie.Need-mul-v Inv-loop μ-loop
-mul-v c = search needs
-
-element-copy-out-v : tie.Need-element-copy-out-v Inv-loop μ-loop
-element-copy-out-v c = search needs
-
-is-finite-requires : tie.Need-is-finite-requires Inv-loop μ-loop
-is-finite-requires c κs = search needs
-
 returns : tie.Need-returns Inv-loop μ-loop
 returns c = sym (each-found _ (c .before .before .before .before .loop .i) (c .before .before .before .before .loop .inv .1) _ (omega arith) (share-not-finite (c .before .before .before .before .before .args .x .now) (c .before .before .before .before .loop .i) (c .before .is-finite .ensures) (c .if1 .taken)))
 
 returns-2 : tie.Need-returns-2 Inv-loop μ-loop
 returns-2 c = sym (each-found _ (c .before .before .before .before .before .loop .i) (c .before .before .before .before .before .loop .inv .1) _ (omega arith) (share-below (c .before .before .before .before .before .before .args .x .now) (c .before .before .before .before .before .loop .i) (c .before .before .is-finite .ensures) (c .before .if1 .left) (c .if2 .taken)))
-
-add-i : tie.Need-add-i Inv-loop μ-loop
-add-i c = search needs
 
 loop-less : tie.Need-loop-less Inv-loop μ-loop
 loop-less c = omega arith
@@ -53,12 +41,12 @@ check-shares-spec =
     Inv-loop
     μ-loop
     loop-holds
-    mul-v
-    element-copy-out-v
-    is-finite-requires
+    (λ c. search needs)
+    (λ c. search needs)
+    (λ c κs. search needs)
     returns
     returns-2
-    add-i
+    (λ c. search needs)
     loop-less
     loop-again
     returns-3)

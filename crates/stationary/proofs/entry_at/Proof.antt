@@ -5,35 +5,14 @@ use Rattle.stationary.proofs.Entries.{in-last-row, on-diagonal, off-dia
 use Rattle.stationary.proofs.entry_at.Statement.{statement}
 use Rattle.stationary.proofs.entry_at.Tie as tie
 
-div-if1 : tie.Need-div-if1
-div-if1 c = search needs
-
 add-if1 : tie.Need-add-if1
 add-if1 c = omega (arith, div-le-self (c .args .e) (c .args .n))
 
 returns : tie.Need-returns
 returns c = in-last-row (c .before .args .n) (c .before .args .transition .now) (c .before .args .e) (c .if1 .taken)
 
-div-if2 : tie.Need-div-if2
-div-if2 c = search needs
-
-rem-if2 : tie.Need-rem-if2
-rem-if2 c = search needs
-
-mul-result : tie.Need-mul-result
-mul-result c = search needs
-
-element-copy-out-result : tie.Need-element-copy-out-result
-element-copy-out-result c = search needs
-
 returns-2 : tie.Need-returns-2
 returns-2 c = on-diagonal (c .before .before .before .args .n) (c .before .before .before .args .transition .now) (c .before .before .before .args .e) (c .before .before .if1 .left) (c .before .if2 .taken)
-
-mul-result-2 : tie.Need-mul-result-2
-mul-result-2 c = search needs
-
-element-copy-out-result-2 : tie.Need-element-copy-out-result-2
-element-copy-out-result-2 c = search needs
 
 returns-3 : tie.Need-returns-3
 returns-3 c = off-diagonal (c .before .before .before .args .n) (c .before .before .before .args .transition .now) (c .before .before .before .args .e) (c .before .before .if1 .left) (c .before .if2 .left)
@@ -42,14 +21,14 @@ pub entry-at-spec : {M : Type 1} → statement M
 entry-at-spec =
     tie.close
     (tie.spec
-    div-if1
+    (λ c. search needs)
     add-if1
     returns
-    div-if2
-    rem-if2
-    mul-result
-    element-copy-out-result
+    (λ c. search needs)
+    (λ c. search needs)
+    (λ c. search needs)
+    (λ c. search needs)
     returns-2
-    mul-result-2
-    element-copy-out-result-2
+    (λ c. search needs)
+    (λ c. search needs)
     returns-3)

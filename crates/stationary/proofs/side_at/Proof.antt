@@ -4,9 +4,6 @@ use Rattle.stationary.proofs.Entries.{last-side, other-side}
 use Rattle.stationary.proofs.side_at.Statement.{statement}
 use Rattle.stationary.proofs.side_at.Tie as tie
 
-add-if1 : tie.Need-add-if1
-add-if1 c = search needs
-
 returns : tie.Need-returns
 returns c = last-side (c .before .args .n) (c .before .args .i) (c .if1 .taken)
 
@@ -14,4 +11,4 @@ returns-2 : tie.Need-returns-2
 returns-2 c = other-side (c .before .args .n) (c .before .args .i) (c .if1 .left)
 
 pub side-at-spec : {M : Type 1} → statement M
-side-at-spec = tie.close (tie.spec add-if1 returns returns-2)
+side-at-spec = tie.close (tie.spec (λ c. search needs) returns returns-2)

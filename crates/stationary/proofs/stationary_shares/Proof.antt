@@ -5,17 +5,8 @@ use Rattle.stationary.proofs.Counts.{counted, shares-refused, shares-so
 use Rattle.stationary.proofs.stationary_shares.Statement.{statement}
 use Rattle.stationary.proofs.stationary_shares.Tie as tie
 
-check-requires : tie.Need-check-requires
-check-requires c κs = search needs
-
 enum-told : tie.Need-enum-told
 enum-told c = search needs
-
-enum-known-r : tie.Need-enum-known-r
-enum-known-r c = search needs
-
-none-requires : tie.Need-none-requires
-none-requires c κs = search needs
 
 returns : tie.Need-returns
 returns c = c .none .ensures ∙ shares-refused (c .before .before .before .before .before .args .t1) (sym (c .before .before .before .before .check .ensures) ∙ c .before .before .r .given .1)
@@ -30,10 +21,10 @@ pub stationary-shares-spec : {M : Type 1} → statement M
 stationary-shares-spec =
     tie.close
     (tie.spec
-    check-requires
+    (λ c κs. search needs)
     enum-told
-    enum-known-r
-    none-requires
+    (λ c. search needs)
+    (λ c κs. search needs)
     returns
     solved-shares-requires
     returns-2)

@@ -13,11 +13,8 @@ element-copy-out-result c = omega (arith, order-small (c .pre .0), c .pre .1)
 div-result : tie.Need-div-result
 div-result c = power-positive (c .before .pre .0) _ (c .before .pre .1)
 
-rem-result : tie.Need-rem-result
-rem-result c = search needs
-
 returns : tie.Need-returns
 returns c = label-is (c .before .pre .0) _ (c .before .pre .1)
 
 pub label-spec : {M : Type 1} → statement M
-label-spec = tie.close (tie.spec mul-result element-copy-out-result div-result rem-result returns)
+label-spec = tie.close (tie.spec mul-result element-copy-out-result div-result (λ c. search needs) returns)

@@ -4,17 +4,11 @@ use Rattle.window.proofs.Round.{label-next, label-round}
 use Rattle.window.proofs.next_label.Statement.{statement}
 use Rattle.window.proofs.next_label.Tie as tie
 
-add-if1 : tie.Need-add-if1
-add-if1 c = search needs
-
 returns : tie.Need-returns
 returns c a e = label-round _ a e (omega (arith, c .before .pre .0)) (omega arith)
-
-add-result : tie.Need-add-result
-add-result c = search needs
 
 returns-2 : tie.Need-returns-2
 returns-2 c a e = label-next _ a e (omega (arith, c .before .pre .0)) (omega (arith, c .before .pre .0))
 
 pub next-label-spec : {M : Type 1} → statement M
-next-label-spec = tie.close (tie.spec add-if1 returns add-result returns-2)
+next-label-spec = tie.close (tie.spec (λ c. search needs) returns (λ c. search needs) returns-2)

@@ -24,17 +24,8 @@ next-place c = power-place _ _ (c .before .before .before .if1 .left) (c .before
 returns : tie.Need-returns Inv-loop μ-loop
 returns c = zeros-of-one _ _ (c .if1 .taken)
 
-mul-table : tie.Need-mul-table Inv-loop μ-loop
-mul-table c = search needs
-
-array-write-table : tie.Need-array-write-table Inv-loop μ-loop
-array-write-table c = search needs
-
 loop-holds : tie.Need-loop-holds Inv-loop μ-loop
 loop-holds c = (omega arith, sym (pow-zero _), omega arith, filled-first _)
-
-div-if2 : tie.Need-div-if2 Inv-loop μ-loop
-div-if2 c = search needs
 
 returns-2 : tie.Need-returns-2 Inv-loop μ-loop
 returns-2 c =
@@ -52,9 +43,6 @@ mul-table-2 c = omega (arith, next-place c)
 
 array-write-table-2 : tie.Need-array-write-table-2 Inv-loop μ-loop
 array-write-table-2 c = omega (arith, next-place c)
-
-loop-less : tie.Need-loop-less Inv-loop μ-loop
-loop-less c = search needs
 
 loop-again : tie.Need-loop-again Inv-loop μ-loop
 loop-again c =
@@ -75,15 +63,15 @@ powers-spec =
     Inv-loop
     μ-loop
     returns
-    mul-table
-    array-write-table
+    (λ c. search needs)
+    (λ c. search needs)
     loop-holds
-    div-if2
+    (λ c. search needs)
     returns-2
     mul-power
     add-l
     mul-table-2
     array-write-table-2
-    loop-less
+    (λ c. search needs)
     loop-again
     returns-3)

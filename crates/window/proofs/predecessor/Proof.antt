@@ -4,9 +4,6 @@ use Rattle.window.proofs.Given.{order-small, predecessor-is, predecesso
 use Rattle.window.proofs.predecessor.Statement.{statement}
 use Rattle.window.proofs.predecessor.Tie as tie
 
-div-result : tie.Need-div-result
-div-result c = search needs
-
 mul-result : tie.Need-mul-result
 mul-result c = omega (arith, order-small (c .pre .0))
 
@@ -25,4 +22,4 @@ returns c = predecessor-is (c .before .pre .0) _
 pub predecessor-spec : {M : Type 1} → statement M
 predecessor-spec =
     tie.close
-    (tie.spec div-result mul-result element-copy-out-result mul-result-2 add-result returns)
+    (tie.spec (λ c. search needs) mul-result element-copy-out-result mul-result-2 add-result returns)

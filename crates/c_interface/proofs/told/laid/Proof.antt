@@ -6,10 +6,6 @@ use borrow.Author.Needs.{needs}
 use Rattle.c_interface.proofs.told.laid.Statement.{statement}
 use Rattle.c_interface.proofs.told.laid.Tie as tie
 
--- src/told.rt:109:5
-put-requires : tie.Need-put-requires
-put-requires c κs = search needs
-
 -- src/told.rt:110:5
 put-requires-2 : tie.Need-put-requires-2
 put-requires-2 c κs = (omega arith, search needs, still-long _ _ _ _ (c .before .before .before .before .put .ensures) (omega arith) refl)
@@ -27,4 +23,4 @@ returns : tie.Need-returns
 returns c = laid-is (c .before .before .before .before .before .before .before .before .before .before .before .before .before .before .before .before .before .before .before .before .args .t1) (c .before .before .before .before .before .before .before .before .before .before .before .before .before .before .before .put .ensures) (c .before .before .before .before .before .before .before .before .before .before .put2 .ensures) (c .before .before .before .before .before .put3 .ensures) (c .put4 .ensures)
 
 pub laid-spec : {M : Type 1} → statement M
-laid-spec = tie.close (tie.spec put-requires put-requires-2 put-requires-3 put-requires-4 returns)
+laid-spec = tie.close (tie.spec (λ c κs. search needs) put-requires-2 put-requires-3 put-requires-4 returns)

@@ -5,18 +5,6 @@ use borrow.Author.Needs.{needs}
 use Rattle.c_interface.proofs.told.list.Statement.{statement}
 use Rattle.c_interface.proofs.told.list.Tie as tie
 
-enum-told : tie.Need-enum-told
-enum-told c = search needs
-
-spell-requires : tie.Need-spell-requires
-spell-requires c κs = search needs
-
-enum-known-check : tie.Need-enum-known-check
-enum-known-check c = search needs
-
-refuse-requires : tie.Need-refuse-requires
-refuse-requires c κs = search needs
-
 returns : tie.Need-returns
 returns c = rw (c .before .before .before .enum-told .given .1) (lists Passed _ _ refl (c .spell .ensures))
 
@@ -26,4 +14,4 @@ returns-2 c = rw (c .before .before .before .before .check .given .1) (lists (Fa
 pub list-spec : {M : Type 1} → statement M
 list-spec =
     tie.close
-    (tie.spec enum-told spell-requires enum-known-check refuse-requires returns returns-2)
+    (tie.spec (λ c. search needs) (λ c κs. search needs) (λ c. search needs) (λ c κs. search needs) returns returns-2)

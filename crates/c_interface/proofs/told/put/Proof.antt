@@ -19,34 +19,6 @@ abbrev μ-loop : tie.MeasureT-loop
 loop-holds : tie.Need-loop-holds Inv-loop μ-loop
 loop-holds c = (omega arith, c .pre .2, fillAt-none _ _ _)
 
--- src/told.rt:101:30
-mul-numbers : tie.Need-mul-numbers Inv-loop μ-loop
-mul-numbers c = search needs
-
--- src/told.rt:101:30
-shared-slice-read-numbers : tie.Need-shared-slice-read-numbers Inv-loop μ-loop
-shared-slice-read-numbers c = search needs
-
--- src/told.rt:101:17
-add-numbers : tie.Need-add-numbers Inv-loop μ-loop
-add-numbers c = search needs
-
--- src/told.rt:101:9
-mul-numbers-2 : tie.Need-mul-numbers-2 Inv-loop μ-loop
-mul-numbers-2 c = search needs
-
--- src/told.rt:101:9
-element-write-numbers : tie.Need-element-write-numbers Inv-loop μ-loop
-element-write-numbers c = search needs
-
--- src/told.rt:100:9
-add-i : tie.Need-add-i Inv-loop μ-loop
-add-i c = search needs
-
--- src/told.rt:100:5
-loop-less : tie.Need-loop-less Inv-loop μ-loop
-loop-less c = search needs
-
 -- src/told.rt:100:5
 loop-again : tie.Need-loop-again Inv-loop μ-loop
 loop-again c = (omega arith, simp length-set (c .before .before .loop .inv .1), fillAt-more _ _ _ _ (c .before .before .loop .inv .2) refl (omega arith))
@@ -62,12 +34,12 @@ put-spec =
     Inv-loop
     μ-loop
     loop-holds
-    mul-numbers
-    shared-slice-read-numbers
-    add-numbers
-    mul-numbers-2
-    element-write-numbers
-    add-i
-    loop-less
+    (λ c. search needs)
+    (λ c. search needs)
+    (λ c. search needs)
+    (λ c. search needs)
+    (λ c. search needs)
+    (λ c. search needs)
+    (λ c. search needs)
     loop-again
     returns)

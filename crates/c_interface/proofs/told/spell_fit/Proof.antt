@@ -4,22 +4,6 @@ use borrow.Author.Needs.{needs}
 use Rattle.c_interface.proofs.told.spell_fit.Statement.{statement}
 use Rattle.c_interface.proofs.told.spell_fit.Tie as tie
 
--- src/told.rt:88:41
-enum-told : tie.Need-enum-told
-enum-told c = search needs
-
--- src/told.rt:88:41
-flag-requires : tie.Need-flag-requires
-flag-requires c κs = search needs
-
--- src/told.rt:91:23
-enum-known-check : tie.Need-enum-known-check
-enum-known-check c = search needs
-
--- src/told.rt:91:29
-refuse-requires : tie.Need-refuse-requires
-refuse-requires c κs = search needs
-
 -- src/told.rt:76:1
 returns : tie.Need-returns
 returns c = λ f l i d. fit-said f (c .before .before .before .enum-told .given .1) (c .before .before .flag .ensures) l i d
@@ -30,4 +14,4 @@ returns-2 c = λ f l i d. fit-refused-said f (c .before .before .before .before 
 
 pub spell-fit-spec : {M : Type 1} → statement M
 spell-fit-spec =
-    tie.close (tie.spec enum-told flag-requires enum-known-check refuse-requires returns returns-2)
+    tie.close (tie.spec (λ c. search needs) (λ c κs. search needs) (λ c. search needs) (λ c κs. search needs) returns returns-2)

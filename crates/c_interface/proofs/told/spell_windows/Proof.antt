@@ -2,18 +2,6 @@ use borrow.Author.Needs.{needs}
 use Rattle.c_interface.proofs.told.spell_windows.Statement.{statement}
 use Rattle.c_interface.proofs.told.spell_windows.Tie as tie
 
-enum-known-windows : tie.Need-enum-known-windows
-enum-known-windows c = search needs
-
-spell-requires : tie.Need-spell-requires
-spell-requires c κs = search needs
-
-enum-known-windows-2 : tie.Need-enum-known-windows-2
-enum-known-windows-2 c = search needs
-
-refuse-requires : tie.Need-refuse-requires
-refuse-requires c κs = search needs
-
 returns : tie.Need-returns
 returns c = rw (c .before .before .before .before .windows .given .1) (c .spell .ensures)
 
@@ -24,9 +12,9 @@ pub spell-windows-spec : {M : Type 1} → statement M
 spell-windows-spec =
     tie.close
     (tie.spec
-    enum-known-windows
-    spell-requires
-    enum-known-windows-2
-    refuse-requires
+    (λ c. search needs)
+    (λ c κs. search needs)
+    (λ c. search needs)
+    (λ c κs. search needs)
     returns
     returns-2)

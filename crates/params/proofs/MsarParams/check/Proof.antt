@@ -16,27 +16,6 @@ returns-2 c = many _ (c .before .before .if1 .left) (c .if2 .taken)
 returns-3 : tie.Need-returns-3
 returns-3 c = long _ (c .before .before .before .before .if1 .left) (c .before .before .if2 .left) (c .if3 .taken)
 
-means-requires : tie.Need-means-requires
-means-requires c κs = search needs
-
-transition-requires : tie.Need-transition-requires
-transition-requires c κs = search needs
-
-ar-requires : tie.Need-ar-requires
-ar-requires c κs = search needs
-
-variances-requires : tie.Need-variances-requires
-variances-requires c κs = search needs
-
-first-of-requires : tie.Need-first-of-requires
-first-of-requires c κs = search needs
-
-first-of-requires-2 : tie.Need-first-of-requires-2
-first-of-requires-2 c κs = search needs
-
-first-of-requires-3 : tie.Need-first-of-requires-3
-first-of-requires-3 c κs = search needs
-
 returns-4 : tie.Need-returns-4
 returns-4 c = rw (in-parts _ (sized (c .before .before .before .before .before .before .before)), ← c .before .before .before .before .before .before .means .ensures, ← c .before .before .before .before .before .transition .ensures, ← c .before .before .before .before .ar .ensures, ← c .before .before .before .variances .ensures, ← c .before .before .first-of .ensures, ← c .before .first-of2 .ensures) (c .first-of3 .ensures)
 
@@ -47,11 +26,11 @@ check-spec =
     returns
     returns-2
     returns-3
-    means-requires
-    transition-requires
-    ar-requires
-    variances-requires
-    first-of-requires
-    first-of-requires-2
-    first-of-requires-3
+    (λ c κs. search needs)
+    (λ c κs. search needs)
+    (λ c κs. search needs)
+    (λ c κs. search needs)
+    (λ c κs. search needs)
+    (λ c κs. search needs)
+    (λ c κs. search needs)
     returns-4)

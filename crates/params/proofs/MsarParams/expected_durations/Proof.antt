@@ -5,12 +5,6 @@ use Rattle.params.proofs.Within.{within}
 use Rattle.params.proofs.MsarParams.expected_durations.Statement.{statement}
 use Rattle.params.proofs.MsarParams.expected_durations.Tie as tie
 
-check-requires : tie.Need-check-requires
-check-requires c κs = search needs
-
-enum-known-r : tie.Need-enum-known-r
-enum-known-r c = search needs
-
 returns : tie.Need-returns
 unfolding durationsOf
 returns c = rw (← c .before .before .before .check .ensures, c .before .r .given .1)
@@ -27,4 +21,4 @@ returns-2 c = rw (← c .before .before .before .check .ensures, c .before .enum
 
 pub expected-durations-spec : {M : Type 1} → statement M
 expected-durations-spec =
-    tie.close (tie.spec check-requires enum-known-r returns enum-told stays-requires returns-2)
+    tie.close (tie.spec (λ c κs. search needs) (λ c. search needs) returns enum-told stays-requires returns-2)

@@ -4,15 +4,6 @@ use Rattle.params.specs.Built.{builtOf}
 use Rattle.params.proofs.MsarParams.new.Statement.{statement}
 use Rattle.params.proofs.MsarParams.new.Tie as tie
 
-check-requires : tie.Need-check-requires
-check-requires c κs = search needs
-
-enum-known-r : tie.Need-enum-known-r
-enum-known-r c = search needs
-
-refused-requires : tie.Need-refused-requires
-refused-requires c κs = search needs
-
 returns : tie.Need-returns
 unfolding builtOf
 returns c = rw (← c .before .before .before .before .check .ensures, c .before .before .r .given .1) (c .refused .ensures)
@@ -31,9 +22,9 @@ pub new-spec : {M : Type 1} → statement M
 new-spec =
     tie.close
     (tie.spec
-    check-requires
-    enum-known-r
-    refused-requires
+    (λ c κs. search needs)
+    (λ c. search needs)
+    (λ c κs. search needs)
     returns
     enum-told
     passed-requires

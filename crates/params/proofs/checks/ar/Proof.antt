@@ -13,9 +13,6 @@ within c = mul-le-mul (at-most _ _ (c .before .one-or-each .ensures) (c .if2 .le
 returns : tie.Need-returns
 returns c = rw (eq-eqb _ _ (c .if1 .taken))
 
-one-or-each-requires : tie.Need-one-or-each-requires
-one-or-each-requires c κs = search needs
-
 returns-2 : tie.Need-returns-2
 returns-2 c = rw (ne-eqb _ _ (c .before .before .if1 .left), ← c .before .one-or-each .ensures, c .if2 .taken)
 
@@ -36,7 +33,7 @@ ar-spec =
     tie.close
     (tie.spec
     returns
-    one-or-each-requires
+    (λ c κs. search needs)
     returns-2
     mul-expected
     returns-3

@@ -18,15 +18,6 @@ abbrev μ-loop : tie.MeasureT-loop
 loop-holds : tie.Need-loop-holds Inv-loop μ-loop
 loop-holds c = (omega arith, sum-none _)
 
-step-requires : tie.Need-step-requires Inv-loop μ-loop
-step-requires c κs = search needs
-
-add-i : tie.Need-add-i Inv-loop μ-loop
-add-i c = search needs
-
-loop-less : tie.Need-loop-less Inv-loop μ-loop
-loop-less c = search needs
-
 loop-again : tie.Need-loop-again Inv-loop μ-loop
 loop-again c = (omega arith, rw (c .step .ensures) (sum-more _ _ (c .before .before .loop .inv .1)))
 
@@ -37,4 +28,4 @@ returns c = let e : c .before .loop .i ≡ c .before .before .args .q .«means_c
 pub column-sum-spec : {M : Type 1} → statement M
 column-sum-spec =
     tie.close
-    (tie.spec Inv-loop μ-loop loop-holds step-requires add-i loop-less loop-again returns)
+    (tie.spec Inv-loop μ-loop loop-holds (λ c κs. search needs) (λ c. search needs) (λ c. search needs) loop-again returns)

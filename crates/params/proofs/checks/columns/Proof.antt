@@ -19,21 +19,9 @@ abbrev μ-loop : tie.MeasureT-loop
 loop-holds : tie.Need-loop-holds Inv-loop μ-loop
 loop-holds c = (omega arith, each-none _)
 
-column-sum-requires : tie.Need-column-sum-requires Inv-loop μ-loop
-column-sum-requires c κs = search needs
-
-magnitude-requires : tie.Need-magnitude-requires Inv-loop μ-loop
-magnitude-requires c κs = search needs
-
 returns : tie.Need-returns Inv-loop μ-loop
 unfolding columnCheck
 returns c = let e : columnCheck (c .before .before .before .before .before .args .q) (c .before .before .before .before .loop .j) ≡ Failed (Column (c .before .before .before .before .loop .j) (c .before .before .column-sum .result)) = rw (← c .before .before .column-sum .ensures, ← c .before .magnitude .ensures, c .if1 .taken) in sym (each-found _ _ (c .before .before .before .before .loop .inv .1) _ (c .before .before .before .loop-test .taken) e)
-
-add-j : tie.Need-add-j Inv-loop μ-loop
-add-j c = search needs
-
-loop-less : tie.Need-loop-less Inv-loop μ-loop
-loop-less c = search needs
 
 loop-again : tie.Need-loop-again Inv-loop μ-loop
 unfolding columnCheck
@@ -49,10 +37,10 @@ columns-spec =
     Inv-loop
     μ-loop
     loop-holds
-    column-sum-requires
-    magnitude-requires
+    (λ c κs. search needs)
+    (λ c κs. search needs)
     returns
-    add-j
-    loop-less
+    (λ c. search needs)
+    (λ c. search needs)
     loop-again
     returns-2)

@@ -3,12 +3,9 @@ use Rattle.params.specs.Checks.{isProbability}
 use Rattle.params.proofs.checks.is_probability.Statement.{statement}
 use Rattle.params.proofs.checks.is_probability.Tie as tie
 
-is-finite-requires : tie.Need-is-finite-requires
-is-finite-requires c κs = search needs
-
 returns : tie.Need-returns
 unfolding isProbability
 returns c = rw (c .is-finite .ensures)
 
 pub is-probability-spec : {M : Type 1} → statement M
-is-probability-spec = tie.close (tie.spec is-finite-requires returns)
+is-probability-spec = tie.close (tie.spec (λ c κs. search needs) returns)

@@ -21,8 +21,5 @@ mul-result-2 c = omega (arith, within c)
 element-copy-out-result : tie.Need-element-copy-out-result
 element-copy-out-result c = within c
 
-returns : tie.Need-returns
-returns c = search needs
-
 pub step-spec : {M : Type 1} → statement M
-step-spec = tie.close (tie.spec mul-result add-result mul-result-2 element-copy-out-result returns)
+step-spec = tie.close (tie.spec mul-result add-result mul-result-2 element-copy-out-result (λ c. search needs))

@@ -14,16 +14,10 @@ returns c = rw (ne-eqb _ _ (c .if1 .taken))
 entries-requires : tie.Need-entries-requires
 entries-requires c κs = omega (arith, mul-le-mul (c .before .before .pre) (c .before .before .pre))
 
-columns-requires : tie.Need-columns-requires
-columns-requires c κs = search needs
-
-first-of-requires : tie.Need-first-of-requires
-first-of-requires c κs = search needs
-
 returns-2 : tie.Need-returns-2
 returns-2 c = rw (eq-eqb _ _ (c .before .before .before .if1 .left), ← c .before .before .entries .ensures, ← c .before .columns .ensures) (c .first-of .ensures)
 
 pub transition-spec : {M : Type 1} → statement M
 transition-spec =
     tie.close
-    (tie.spec mul-square returns entries-requires columns-requires first-of-requires returns-2)
+    (tie.spec mul-square returns entries-requires (λ c κs. search needs) (λ c κs. search needs) returns-2)

@@ -3,9 +3,6 @@ use Rattle.params.proofs.Tests.{at-most}
 use Rattle.params.proofs.checks.variances.Statement.{statement}
 use Rattle.params.proofs.checks.variances.Tie as tie
 
-one-or-each-requires : tie.Need-one-or-each-requires
-one-or-each-requires c κs = search needs
-
 returns : tie.Need-returns
 returns c = rw (← c .before .one-or-each .ensures, c .if1 .taken)
 
@@ -16,4 +13,4 @@ returns-2 : tie.Need-returns-2
 returns-2 c = rw (← c .before .before .one-or-each .ensures, c .before .if1 .left) (c .each-variance .ensures)
 
 pub variances-spec : {M : Type 1} → statement M
-variances-spec = tie.close (tie.spec one-or-each-requires returns each-variance-requires returns-2)
+variances-spec = tie.close (tie.spec (λ c κs. search needs) returns each-variance-requires returns-2)

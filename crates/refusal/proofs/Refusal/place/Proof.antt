@@ -8,75 +8,6 @@ use Rattle.refusal.proofs.Refusal.place.Tie as tie
 told : {r q : Refusal} → r ≡ q → said q .place ≡ said r .place
 told e = sym (ap (λ (x : Refusal). said x .place) e)
 
-enum-known-self : tie.Need-enum-known-self
-enum-known-self c = search needs
-
-enum-known-self-2 : tie.Need-enum-known-self-2
-enum-known-self-2 c = search needs
-
-enum-known-self-3 : tie.Need-enum-known-self-3
-enum-known-self-3 c = search needs
-
-enum-known-self-4 : tie.Need-enum-known-self-4
-enum-known-self-4 c = search needs
-
-enum-known-self-5 : tie.Need-enum-known-self-5
-enum-known-self-5 c = search needs
-
-enum-known-self-6 : tie.Need-enum-known-self-6
-enum-known-self-6 c = search needs
-
-enum-known-self-7 : tie.Need-enum-known-self-7
-enum-known-self-7 c = search needs
-
-enum-known-self-8 : tie.Need-enum-known-self-8
-enum-known-self-8 c = search needs
-
-enum-known-self-9 : tie.Need-enum-known-self-9
-enum-known-self-9 c = search needs
-
-enum-known-self-10 : tie.Need-enum-known-self-10
-enum-known-self-10 c = search needs
-
-enum-known-self-11 : tie.Need-enum-known-self-11
-enum-known-self-11 c = search needs
-
-enum-known-self-12 : tie.Need-enum-known-self-12
-enum-known-self-12 c = search needs
-
-enum-known-self-13 : tie.Need-enum-known-self-13
-enum-known-self-13 c = search needs
-
-enum-known-self-14 : tie.Need-enum-known-self-14
-enum-known-self-14 c = search needs
-
-enum-known-self-15 : tie.Need-enum-known-self-15
-enum-known-self-15 c = search needs
-
-enum-known-self-16 : tie.Need-enum-known-self-16
-enum-known-self-16 c = search needs
-
-enum-known-self-17 : tie.Need-enum-known-self-17
-enum-known-self-17 c = search needs
-
-enum-known-self-18 : tie.Need-enum-known-self-18
-enum-known-self-18 c = search needs
-
-enum-told : tie.Need-enum-told
-enum-told c = search needs
-
-enum-told-2 : tie.Need-enum-told-2
-enum-told-2 c = search needs
-
-enum-told-3 : tie.Need-enum-told-3
-enum-told-3 c = search needs
-
-enum-told-4 : tie.Need-enum-told-4
-enum-told-4 c = search needs
-
-enum-told-5 : tie.Need-enum-told-5
-enum-told-5 c = search needs
-
 returns : tie.Need-returns
 returns c = told (c .before .self .given .1)
 
@@ -150,29 +81,29 @@ pub place-spec : {M : Type 1} → statement M
 place-spec =
     tie.close
     (tie.spec
-    enum-known-self
-    enum-known-self-2
-    enum-known-self-3
-    enum-known-self-4
-    enum-known-self-5
-    enum-known-self-6
-    enum-known-self-7
-    enum-known-self-8
-    enum-known-self-9
-    enum-known-self-10
-    enum-known-self-11
-    enum-known-self-12
-    enum-known-self-13
-    enum-known-self-14
-    enum-known-self-15
-    enum-known-self-16
-    enum-known-self-17
-    enum-known-self-18
-    enum-told
-    enum-told-2
-    enum-told-3
-    enum-told-4
-    enum-told-5
+    (λ c. search needs)
+    (λ c. search needs)
+    (λ c. search needs)
+    (λ c. search needs)
+    (λ c. search needs)
+    (λ c. search needs)
+    (λ c. search needs)
+    (λ c. search needs)
+    (λ c. search needs)
+    (λ c. search needs)
+    (λ c. search needs)
+    (λ c. search needs)
+    (λ c. search needs)
+    (λ c. search needs)
+    (λ c. search needs)
+    (λ c. search needs)
+    (λ c. search needs)
+    (λ c. search needs)
+    (λ c. search needs)
+    (λ c. search needs)
+    (λ c. search needs)
+    (λ c. search needs)
+    (λ c. search needs)
     returns
     returns-2
     returns-3

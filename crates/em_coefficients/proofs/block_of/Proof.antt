@@ -1,0 +1,14 @@
+use borrow.Author.Tests.{eq-eqb, ne-eqb}
+use Rattle.em_coefficients.proofs.block_of.Statement.{statement}
+use Rattle.em_coefficients.proofs.block_of.Tie as tie
+use Rattle.em_coefficients.proofs.block_of.Reads as reads
+use Rattle.em_coefficients.proofs.block_of.Lts as lts
+
+returns : tie.Need-returns
+returns c = rw (eq-eqb _ _ (c .if1 .taken))
+
+returns-2 : tie.Need-returns-2
+returns-2 c = rw (ne-eqb _ _ (c .if1 .left))
+
+pub block-of-spec : {M : Type 1} → statement M
+block-of-spec = tie.close (tie.spec returns returns-2)

@@ -1,0 +1,54 @@
+use Rattle.em_coefficients.proofs.Parts.{side-fits, table-fits, table-small}
+use Rattle.em_coefficients.specs.Steps.{blockFrom}
+use native.Mathlib.Omega.{arith}
+use borrow.Author.Needs.{needs}
+use Rattle.em_coefficients.proofs.solve_block.Statement.{statement}
+use Rattle.em_coefficients.proofs.solve_block.Tie as tie
+use Rattle.em_coefficients.proofs.solve_block.Reads as reads
+use Rattle.em_coefficients.proofs.solve_block.Lts as lts
+use Rattle.em_coefficients.proofs.part_at.Reads as part-at-reads
+use Rattle.em_coefficients.proofs.table_at.Reads as table-at-reads
+use Rattle.em_ridge.proofs.solve_or_keep.Reads as solve-or-keep-reads
+
+mul-table-at : tie.Need-mul-table-at
+mul-table-at c = omega (arith, table-small (c .pre .1))
+
+mul-table-at-2 : tie.Need-mul-table-at-2
+mul-table-at-2 c = omega (arith, table-fits (c .pre .2) (c .pre .1))
+
+mul-table-at-3 : tie.Need-mul-table-at-3
+mul-table-at-3 c = omega (arith, table-small (c .pre .1))
+
+table-at-requires : tie.Need-table-at-requires
+table-at-requires c κs = (table-fits (c .pre .2) (c .pre .1), table-small (c .pre .1))
+
+mul-part-at : tie.Need-mul-part-at
+mul-part-at c = omega (arith, side-fits (c .before .pre .2) (c .before .pre .1))
+
+part-at-requires : tie.Need-part-at-requires
+part-at-requires c κs = (side-fits (c .before .pre .2) (c .before .pre .1), omega arith)
+
+mul-part-at-2 : tie.Need-mul-part-at-2
+mul-part-at-2 c = omega (arith, side-fits (c .before .before .pre .2) (c .before .before .pre .1))
+
+part-at-requires-2 : tie.Need-part-at-requires-2
+part-at-requires-2 c κs = (side-fits (c .before .before .pre .2) (c .before .before .pre .1), omega arith)
+
+returns : tie.Need-returns
+unfolding blockFrom
+returns c = rw (← c .before .before .before .table-at .ensures, ← c .before .before .part-at .ensures, ← c .before .part-at2 .ensures) (c .solve-or-keep .ensures)
+
+pub solve-block-spec : {M : Type 1} → statement M
+solve-block-spec =
+    tie.close
+    (tie.spec
+    mul-table-at
+    mul-table-at-2
+    mul-table-at-3
+    table-at-requires
+    mul-part-at
+    part-at-requires
+    mul-part-at-2
+    part-at-requires-2
+    (λ c κs. search needs)
+    returns)

@@ -1,0 +1,288 @@
+// The new AR coefficients of an EM step. One walk over rows and windows makes the normal equations of all blocks: block
+// b's table stands from place b·p·p on, its right-hand side from b·p on. The distance of a reading to a mean depends on
+// its lag and label alone: the distances are made once a row, and each window reads those of its labels.
+ghost use mathlib.Core.Path.{_≡_};
+ghost use Prim.Native.Nat.{suc, _+_, _*_, _/_, _^_, _<_, _≤_};
+ghost use lib.ListN.{length, drop, replicate};
+ghost use lib.Ieee.{ne};
+ghost use Rattle.number.specs.Number.{if_then_else_, _⊕_, _⊗_, _⊘_, zero⁺};
+ghost use Rattle.number.specs.Table.{_!_, fillAt};
+ghost use Rattle.window.specs.Shape.{Shape};
+ghost use Rattle.rows.specs.Memory.{filteredFrom};
+ghost use Rattle.params.specs.Parameters.{k, p, blockOf};
+ghost use Rattle.em_coefficients.specs.Coefficients.{blocksOf, newAr};
+ghost use Rattle.em_coefficients.specs.Steps.{distanceBy, distanceOf, tableTerm, sideTerm, addedTo, sumOn, counted, precisionOf, rowTable, rowSide, blockFrom};
+use em_ridge::Update;
+use params::MsarParams;
+use refusal::Check;
+use window::Row;
+use window::Time;
+
+// New coefficients in their places, or the refusal beside zeros.
+pub struct Blocks {
+    pub check: Check,
+    pub ar: [f64; 112],
+}
+
+// ---- once a window
+
+// x_0, .., x_order of window a, by its labels in turn.
+fn distances_of(distances: &[f64; 128], a: usize, k: usize, order: usize, x: &mut [f64; 8])
+    requires { ⌜ (0 < k) × (k ≤ 16) × (order ≤ 7) × (length (now x) ≡ 8) ⌝ }
+    ensures { λ _. ⌜ now (x .exit) ≡ fillAt 0 (distanceOf k order (now (distances .entry)) a) (order + 1) (now (x .entry)) ⌝ }
+{
+    let mut rest = a;
+    for l in 0..order + 1 {
+        x[l] = distances[l * k + rest % k];
+        rest = rest / k;
+    }
+}
+
+// One row of a table, from `at` on.
+fn add_products(tables: &mut [f64; 784], at: usize, order: usize, f: f64, x: &[f64; 8])
+    requires { ⌜ (order ≤ 7) × (at + order ≤ 784) × (length (now tables) ≡ 784) ⌝ }
+    ensures { λ _. ⌜ now (tables .exit) ≡ fillAt at (λ c. now (tables .entry) ! (at + c) ⊕ f ⊗ now (x .entry) ! (c + 1)) order (now (tables .entry)) ⌝ }
+{
+    for c in 0..order {
+        tables[at + c] = tables[at + c] + f * x[c + 1];
+    }
+}
+
+// A window of weight w and distances x, for block b.
+fn add_window(
+    tables: &mut [f64; 784],
+    sides: &mut [f64; 112],
+    b: usize,
+    order: usize,
+    w: f64,
+    x: &[f64; 8],
+)
+    requires { ⌜ (0 < order) × (order ≤ 7) × (b < 16) × (length (now tables) ≡ 784) × (length (now sides) ≡ 112) ⌝ }
+    ensures tables { λ _. ⌜ now (tables .exit) ≡ addedTo b (order * order) (tableTerm order w (λ l. now (x .entry) ! l)) (now (tables .entry)) ⌝ }
+    ensures sides { λ _. ⌜ now (sides .exit) ≡ addedTo b order (sideTerm w (λ l. now (x .entry) ! l)) (now (sides .entry)) ⌝ }
+{
+    let table = b * (order * order);
+    let side = b * order;
+    for l in 0..order {
+        let f = w * x[l + 1];
+        sides[side + l] = sides[side + l] + f * x[0];
+        add_products(tables, table + l * order, order, f, x);
+    }
+}
+
+// What is counted once is shared by all labels.
+fn block_of(count: usize, s: usize) -> usize
+    ensures { λ r. ⌜ r ≡ blockOf count s ⌝ }
+{
+    if count == 1 {
+        return 0;
+    }
+    s
+}
+
+// Window a, of smoothed weight g and label s now; a weight equal to zero is skipped.
+fn weigh_window(
+    g: f64,
+    a: usize,
+    s: usize,
+    distances: &[f64; 128],
+    variances: &[f64; 16],
+    k: usize,
+    order: usize,
+    blocks: usize,
+    count: usize,
+    tables: &mut [f64; 784],
+    sides: &mut [f64; 112],
+)
+    requires { ⌜ (s < 16) × (0 < k) × (k ≤ 16) × (0 < order) × (order ≤ 7) × (length (now tables) ≡ 784) × (length (now sides) ≡ 112) ⌝ }
+    ensures tables { λ _. ⌜ now (tables .exit) ≡ (if ne g zero⁺ then addedTo (blockOf blocks s) (order * order) (tableTerm order (g ⊘ now (variances .entry) ! blockOf count s) (distanceOf k order (now (distances .entry)) a)) (now (tables .entry)) else now (tables .entry)) ⌝ }
+    ensures sides { λ _. ⌜ now (sides .exit) ≡ (if ne g zero⁺ then addedTo (blockOf blocks s) order (sideTerm (g ⊘ now (variances .entry) ! blockOf count s) (distanceOf k order (now (distances .entry)) a)) (now (sides .entry)) else now (sides .entry)) ⌝ }
+{
+    if g != 0.0 {
+        let mut x = [0.0; 8];
+        distances_of(distances, a, k, order, &mut x);
+        let own = block_of(count, s);
+        let b = block_of(blocks, s);
+        add_window(tables, sides, b, order, g / variances[own], &x);
+    }
+}
+
+// ---- once a row
+
+// The distances by lag and label at time t: place l·k + s is that of label s at lag l.
+fn distances_at(
+    y: &[f64],
+    t: Time,
+    means: &[f64; 16],
+    k: usize,
+    order: usize,
+    distances: &mut [f64; 128],
+)
+    requires { ⌜ (0 < k) × (k ≤ 16) × (order ≤ 7) × (order ≤ t .0) × (t .0 < length (now y)) × (length (now distances) ≡ 128) ⌝ }
+    ensures { λ _. ⌜ now (distances .exit) ≡ fillAt 0 (distanceBy k (now (y .entry)) t (now (means .entry))) (suc order * k) (now (distances .entry)) ⌝ }
+{
+    let at = t.0;
+    let end = (order + 1) * k;
+    for e in 0..end {
+        distances[e] = y[at - e / k] - means[e % k];
+    }
+}
+
+// A row of m weights, which stands from `from` on.
+fn add_row(
+    work: &[f64],
+    from: usize,
+    distances: &[f64; 128],
+    variances: &[f64; 16],
+    k: usize,
+    order: usize,
+    blocks: usize,
+    count: usize,
+    m: usize,
+    tables: &mut [f64; 784],
+    sides: &mut [f64; 112],
+)
+    requires { ⌜ (0 < k) × (k ≤ 16) × (from + m ≤ length (now work)) ⌝ }
+    requires { ⌜ (0 < order) × (order ≤ 7) × (length (now tables) ≡ 784) × (length (now sides) ≡ 112) ⌝ }
+    ensures tables { λ _. ⌜ now (tables .exit) ≡ fillAt 0 (λ c. sumOn (now (tables .entry) ! c) (counted k blocks (drop from (now (work .entry))) (c / (order * order))) (rowTable order (precisionOf k count (now (variances .entry)) (drop from (now (work .entry)))) (distanceOf k order (now (distances .entry))) c) m) 784 (now (tables .entry)) ⌝ }
+    ensures sides { λ _. ⌜ now (sides .exit) ≡ fillAt 0 (λ c. sumOn (now (sides .entry) ! c) (counted k blocks (drop from (now (work .entry))) (c / order)) (rowSide order (precisionOf k count (now (variances .entry)) (drop from (now (work .entry)))) (distanceOf k order (now (distances .entry))) c) m) 112 (now (sides .entry)) ⌝ }
+{
+    let mut s = 0;
+    for a in 0..m {
+        weigh_window(
+            work[from + a],
+            a,
+            s,
+            distances,
+            variances,
+            k,
+            order,
+            blocks,
+            count,
+            tables,
+            sides,
+        );
+        s = window::next_label(s, k);
+    }
+}
+
+// ---- the blocks
+
+// The table of the block that stands from `at` on.
+fn table_at(tables: &[f64; 784], at: usize, n: usize) -> [f64; 256]
+    requires { ⌜ (at + n ≤ 784) × (n ≤ 256) ⌝ }
+    ensures { λ r. ⌜ r ≡ fillAt 0 (λ e. now (tables .entry) ! (at + e)) n (replicate 256 zero⁺) ⌝ }
+{
+    let mut table = [0.0; 256];
+    for e in 0..n {
+        table[e] = tables[at + e];
+    }
+    table
+}
+
+// Its right-hand side, and its coefficients.
+fn part_at(parts: &[f64; 112], at: usize, n: usize) -> [f64; 16]
+    requires { ⌜ (at + n ≤ 112) × (n ≤ 16) ⌝ }
+    ensures { λ r. ⌜ r ≡ fillAt 0 (λ e. now (parts .entry) ! (at + e)) n (replicate 16 zero⁺) ⌝ }
+{
+    let mut part = [0.0; 16];
+    for e in 0..n {
+        part[e] = parts[at + e];
+    }
+    part
+}
+
+// Block b solved; a refusal names the place 2.
+fn solve_block(
+    order: usize,
+    tables: &[f64; 784],
+    sides: &[f64; 112],
+    ar: &[f64; 112],
+    b: usize,
+) -> Update
+    requires { ⌜ (0 < order) × (order ≤ 7) × (b < 16) ⌝ }
+    ensures { λ r. ⌜ r ≡ blockFrom order (now (tables .entry)) (now (sides .entry)) (now (ar .entry)) b ⌝ }
+{
+    let table = table_at(tables, b * (order * order), order * order);
+    let side = part_at(sides, b * order, order);
+    let incumbent = part_at(ar, b * order, order);
+    em_ridge::solve_or_keep(table, side, order, incumbent, 2)
+}
+
+// A block's coefficients, to their places.
+fn put(ar: &mut [f64; 112], at: usize, values: [f64; 16], n: usize)
+    requires { ⌜ (at + n ≤ 112) × (n ≤ 16) × (length (now ar) ≡ 112) ⌝ }
+    ensures { λ _. ⌜ now (ar .exit) ≡ fillAt at (λ l. values ! l) n (now (ar .entry)) ⌝ }
+{
+    for l in 0..n {
+        ar[at + l] = values[l];
+    }
+}
+
+// All blocks in order, up to the first that is refused.
+fn solve_blocks(
+    order: usize,
+    tables: &[f64; 784],
+    sides: &[f64; 112],
+    old: [f64; 112],
+    blocks: usize,
+) -> Blocks
+    requires { ⌜ (0 < order) × (order ≤ 7) × (blocks ≤ 16) ⌝ }
+    ensures { λ r. ⌜ r ≡ blocksOf order blocks (blockFrom order (now (tables .entry)) (now (sides .entry)) old) old ⌝ }
+{
+    let mut ar = old;
+    for b in 0..blocks {
+        let update = solve_block(order, tables, sides, &old, b);
+        let check = update.check;
+        if let Check::Failed(r) = check {
+            return Blocks {
+                check: Check::Failed(r),
+                ar: [0.0; 112],
+            };
+        }
+        let values = update.values;
+        put(&mut ar, b * order, values, order);
+    }
+    Blocks {
+        check: Check::Passed,
+        ar,
+    }
+}
+
+// The new coefficients by the smoothed rows in work memory.
+pub fn new_ar(q: MsarParams, y: &[f64], power: usize, n: usize, work: &[f64]) -> Blocks
+    requires { ⌜ Shape (k q) (p q) ⌝ }
+    requires { ⌜ (power ≡ k q ^ p q) × (0 < p q) × (p q + n ≡ length (now y)) × (length (now y) ≤ 4096) × (2 * n * k q ^ suc (p q) ≤ length (now work)) × (q .«ar_blocks» ≤ 16) ⌝ }
+    ensures { λ r. ⌜ r ≡ newAr q (now (y .entry)) n (λ i. drop (filteredFrom (k q ^ suc (p q)) i) (now (work .entry))) ⌝ }
+{
+    let k = q.means_count;
+    let order = q.order;
+    let m = power * k;
+    let mut distances = [0.0; 128];
+    let mut tables = [0.0; 784];
+    let mut sides = [0.0; 112];
+    for i in 0..n {
+        distances_at(
+            y,
+            window::time_of(Row(i), order),
+            &q.means,
+            k,
+            order,
+            &mut distances,
+        );
+        add_row(
+            work,
+            2 * i * m + m,
+            &distances,
+            &q.variances,
+            k,
+            order,
+            q.ar_blocks,
+            q.variances_count,
+            m,
+            &mut tables,
+            &mut sides,
+        );
+    }
+    solve_blocks(order, &tables, &sides, q.ar, q.ar_blocks)
+}

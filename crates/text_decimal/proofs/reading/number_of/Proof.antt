@@ -1,0 +1,17 @@
+use borrow.Author.Needs.{needs}
+use Rattle.text_decimal.specs.Text.{numberOf}
+use Rattle.text_decimal.proofs.reading.number_of.Statement.{statement}
+use Rattle.text_decimal.proofs.reading.number_of.Tie as tie
+
+returns : tie.Need-returns
+unfolding numberOf
+returns c = simp (c .before .before .if1 .taken) (cc)
+
+returns-2 : tie.Need-returns-2
+unfolding numberOf
+returns-2 c = simp (c .before .before .if1 .left) (cc)
+
+pub number-of-spec : {M : Type 1} → statement M
+number-of-spec =
+    tie.close
+    (tie.spec (λ c. search needs) (λ c κs. search needs) returns (λ c. search needs) (λ c κs. search needs) returns-2)
