@@ -13,11 +13,11 @@ use Rattle.spec.specs.declared.MsarSpec.{MsarSpec}
 use Rattle.window.specs.Shape.{Shape}
 use Rattle.params.specs.declared.MsarParams.{MsarParams}
 use Rattle.params.specs.Parameters.{k, p}
+use Rattle.rows.specs.Rows.{windowsOf}
 use Rattle.binding.specs.Binding.{boundCheck, boundAfter, workNeed, tableNeed, memoryCheck, tablesCheck, paramsCheck, admittedCheck, admitted}
 use Rattle.binding.specs.declared.Bound.{Bound}
 use Rattle.binding.specs.declared.Tables.{Tables}
 use Rattle.binding.proofs.Passed.{fits, same-shape}
-use Rattle.filter.specs.Steps.{windowsOf}
 
 pub record Admitted (S : MsarSpec) (y : List Float) (q : MsarParams) (lent : ℕ) (tables : Tables) (b : Bound) : Type 0 where
   pub shape : Shape (k q) (p q)

@@ -15,12 +15,12 @@ use Rattle.refusal.specs.declared.Check.the-variants.{Passed, Failed}
 use Rattle.refusal.specs.declared.Refusal.{Refusal}
 use Rattle.params.specs.declared.MsarParams.{MsarParams}
 use Rattle.params.specs.Parameters.{k, p}
-use Rattle.rows.specs.Rows.{resultAt, Same}
+use Rattle.rows.specs.Rows.{resultAt, Same, windowsOf}
 use Rattle.rows.specs.Memory.{filteredFrom}
 use Rattle.rows.specs.Steps.{labelSumAt}
 use Rattle.rows.proofs.Rows.{tabulated}
 use Rattle.filter.specs.Filter.{predictedRow, filteredRow, rowCount, startShares, runCheck, loglikOf, answerAfter, answerOf}
-use Rattle.filter.specs.Steps.{windowsOf, Held}
+use Rattle.filter.specs.Steps.{Held}
 use Rattle.filter.specs.declared.Answer.{Answer}
 use Rattle.smoother.specs.Smoother.{smoothedRow}
 use Rattle.smoother.specs.InMemory.{SmoothedRows}

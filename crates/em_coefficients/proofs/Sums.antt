@@ -17,12 +17,12 @@ use Rattle.number.proofs.Table.{fillAt-ext, fill-at}
 use Rattle.window.specs.Windows.{label, labels}
 use Rattle.window.specs.Time.{timeOf}
 use Rattle.window.proofs.Windows.{label-below}
-use Rattle.rows.specs.Rows.{Same}
+use Rattle.rows.specs.Rows.{Same, windowsOf}
 use Rattle.rows.specs.Memory.{filteredFrom}
 use Rattle.rows.proofs.Places.{place}
 use Rattle.params.specs.declared.MsarParams.{MsarParams}
 use Rattle.params.specs.Parameters.{k, p, blockOf}
-use Rattle.rows.specs.Smoothed.{windowsOf, places, labelAt, distance}
+use Rattle.rows.specs.Smoothed.{places, labelAt, distance}
 use Rattle.rows.proofs.SmoothedTable.{label-there, weight-there, seen-same, precision-same}
 use Rattle.em_coefficients.specs.declared.Blocks.{Blocks}
 use Rattle.em_coefficients.specs.Coefficients.{blocksOf, inBlock, productAt, arCell, arSide, newBlock, newAr}

@@ -15,10 +15,10 @@ use Rattle.number.proofs.Table.{fill-at, fillAt-ext}
 use Rattle.window.specs.Windows.{labels, label}
 use Rattle.params.specs.declared.MsarParams.{MsarParams}
 use Rattle.params.specs.Parameters.{k, p}
-use Rattle.rows.specs.Rows.{Same}
+use Rattle.rows.specs.Rows.{Same, windowsOf}
 use Rattle.rows.specs.Memory.{filteredFrom}
 use Rattle.rows.proofs.Places.{place}
-use Rattle.rows.specs.Smoothed.{windowsOf, places, weightAt}
+use Rattle.rows.specs.Smoothed.{places, weightAt}
 use Rattle.rows.specs.Steps.{cellAt}
 use Rattle.rows.proofs.SmoothedTable.{weight-same}
 use Rattle.em_counts.specs.Counts.{count, columnCount, newStep, newTransition}

@@ -16,8 +16,9 @@ use Rattle.window.specs.Windows.{labels}
 use Rattle.window.proofs.Windows.{label-labels}
 use Rattle.params.specs.declared.MsarParams.{MsarParams}
 use Rattle.params.specs.Parameters.{k, p, φ}
+use Rattle.rows.specs.Rows.{windowsOf}
 use Rattle.density.specs.Steps.{phiAt, phisOf}
-use Rattle.rows.specs.Smoothed.{windowsOf, labelAt, timeAt}
+use Rattle.rows.specs.Smoothed.{labelAt, timeAt}
 use Rattle.em_means.specs.Means.{dTo, αTo}
 use Rattle.em_means.specs.Steps.{sensitivityTo, sensitivitiesOf, lessLagsTo}
 

@@ -9,8 +9,8 @@ use Rattle.number.proofs.Sums.{where-ext}
 use Rattle.number.proofs.Table.{fillAt-ext}
 use Rattle.params.specs.declared.MsarParams.{MsarParams}
 use Rattle.params.specs.Parameters.{k}
-use Rattle.rows.specs.Rows.{Same}
-use Rattle.rows.specs.Smoothed.{windowsOf, places}
+use Rattle.rows.specs.Rows.{Same, windowsOf}
+use Rattle.rows.specs.Smoothed.{places}
 use Rattle.rows.proofs.SmoothedTable.{seen-same, precision-same}
 use Rattle.em_means.specs.Means.{sensitive, meansCell, meansSide, newMeans}
 

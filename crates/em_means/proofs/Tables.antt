@@ -13,12 +13,13 @@ use Rattle.window.specs.Time.{timeOf}
 use Rattle.window.specs.declared.Time.{Time}
 use Rattle.params.specs.declared.MsarParams.{MsarParams}
 use Rattle.params.specs.Parameters.{k, p, variance}
+use Rattle.rows.specs.Rows.{windowsOf}
 use Rattle.rows.specs.Memory.{filteredFrom}
 use Rattle.rows.proofs.Places.{place}
 use Rattle.density.specs.Steps.{phisOf}
 use Rattle.em_ridge.specs.Ridge.{solveOrKeep}
 use Rattle.em_ridge.specs.declared.Update.{Update}
-use Rattle.rows.specs.Smoothed.{windowsOf, places, labelAt, timeAt}
+use Rattle.rows.specs.Smoothed.{places, labelAt, timeAt}
 use Rattle.em_means.specs.Means.{dTo, meansCell, meansSide, newMeans}
 use Rattle.em_means.specs.Steps.{lessLagsAt, cellTo, sideTo, Summed, Lent}
 use Rattle.em_means.proofs.Lags.{label-now, sensitivity-is, less-lags-is}

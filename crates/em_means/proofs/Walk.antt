@@ -14,7 +14,8 @@ use Rattle.number.specs.Table.{_!_, fillAt}
 use Rattle.number.proofs.Table.{fillAt-ext, fillAt-rest, fillAt-over, fill-at}
 use Rattle.params.specs.declared.MsarParams.{MsarParams}
 use Rattle.params.specs.Parameters.{k, p}
-use Rattle.rows.specs.Smoothed.{windowsOf, labelAt, weightAt, precision}
+use Rattle.rows.specs.Rows.{windowsOf}
+use Rattle.rows.specs.Smoothed.{labelAt, weightAt, precision}
 use Rattle.em_means.specs.Means.{dTo, α, sensitive}
 use Rattle.em_means.specs.Steps.{sensitivitiesOf, cellAdded, sideAdded, cellSeen, sideSeen, cellTo, sideTo, Summed, Lent}
 use Rattle.em_means.proofs.Lags.{label-now, α-window, sensitivity-at}

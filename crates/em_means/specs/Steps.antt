@@ -9,7 +9,8 @@ use Rattle.number.specs.Sums.{sumWhere}
 use Rattle.number.specs.Table.{_!_, fillAt}
 use Rattle.params.specs.declared.MsarParams.{MsarParams}
 use Rattle.params.specs.Parameters.{k, p, variance}
-use Rattle.rows.specs.Smoothed.{windowsOf, precision}
+use Rattle.rows.specs.Rows.{windowsOf}
+use Rattle.rows.specs.Smoothed.{precision}
 use Rattle.em_means.specs.Means.{dTo, α, sensitive}
 
 -- ---- by window number and label; phis has φ_(l+1) of label s at place l · k + s

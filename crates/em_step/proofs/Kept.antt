@@ -11,8 +11,7 @@ use Rattle.params.specs.declared.Built.{Built}
 use Rattle.params.specs.Parameters.{k, p}
 use Rattle.params.specs.Checks.{parameterCheck}
 use Rattle.window.specs.Shape.{Shape}
-use Rattle.rows.specs.Rows.{Same}
-use Rattle.rows.specs.Smoothed.{windowsOf}
+use Rattle.rows.specs.Rows.{Same, windowsOf}
 use Rattle.em_counts.specs.Counts.{newTransition}
 use Rattle.em_counts.proofs.Dividing.{transition-same}
 use Rattle.em_means.specs.Means.{newMeans}

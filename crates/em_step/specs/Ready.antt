@@ -8,7 +8,7 @@ use Rattle.number.specs.Number.{_⊗_}
 use Rattle.window.specs.Shape.{Shape}
 use Rattle.params.specs.declared.MsarParams.{MsarParams}
 use Rattle.params.specs.Parameters.{k, p}
-use Rattle.rows.specs.Smoothed.{windowsOf}
+use Rattle.rows.specs.Rows.{windowsOf}
 use Rattle.em_sample_variance.specs.Series.{sampleVariance}
 use Rattle.em_ridge.specs.Ridge.{small}
 

@@ -4,7 +4,7 @@ ghost use lib.ListN.{length, drop};
 ghost use Rattle.rows.specs.Memory.{filteredFrom};
 ghost use Rattle.refusal.specs.declared.Check.the-variants.{Passed};
 ghost use Rattle.params.specs.Checks.{parameterCheck};
-ghost use Rattle.rows.specs.Smoothed.{windowsOf};
+ghost use Rattle.rows.specs.Rows.{windowsOf};
 ghost use Rattle.em_step.specs.Step.{unsolvedBy, _leads_, improved, stepOf};
 ghost use Rattle.em_step.specs.Ready.{Ready};
 use params::Built;

@@ -16,13 +16,13 @@ use Rattle.number.proofs.Sums.{where-ext}
 use Rattle.number.proofs.Table.{fillAt-ext, fill-at}
 use Rattle.window.specs.Windows.{labels}
 use Rattle.window.specs.Time.{timeOf}
-use Rattle.rows.specs.Rows.{Same}
+use Rattle.rows.specs.Rows.{Same, windowsOf}
 use Rattle.rows.specs.Memory.{filteredFrom}
 use Rattle.rows.proofs.Places.{place}
 use Rattle.params.specs.declared.MsarParams.{MsarParams}
 use Rattle.params.specs.Parameters.{k, p, blockOf}
 use Rattle.em_sample_variance.specs.Series.{sampleVariance}
-use Rattle.rows.specs.Smoothed.{windowsOf, places, labelAt, weightAt}
+use Rattle.rows.specs.Smoothed.{places, labelAt, weightAt}
 use Rattle.em_ridge.specs.Ridge.{small}
 use Rattle.em_variances.specs.Variances.{residualTo, inBlock, squareAt, squares, weights, newVariance, newVariances}
 use Rattle.em_variances.specs.Steps.{residualOf, residualAt, sumOn, counted, squareOf, varianceOf}

@@ -20,7 +20,8 @@ use Rattle.density.proofs.Rows.{fill-own}
 use Rattle.window.specs.Windows.{label, labels}
 use Rattle.params.specs.declared.MsarParams.{MsarParams}
 use Rattle.params.specs.Parameters.{k, p, blockOf}
-use Rattle.rows.specs.Smoothed.{windowsOf, labelAt, weightAt}
+use Rattle.rows.specs.Rows.{windowsOf}
+use Rattle.rows.specs.Smoothed.{labelAt, weightAt}
 use Rattle.em_variances.specs.Steps.{sumOn}
 
 either : {A : Type 0} (t : Bool) → (t ≡ true → A) → (t ≡ false → A) → A

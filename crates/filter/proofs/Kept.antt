@@ -26,7 +26,7 @@ use Rattle.window.specs.Time.{timeOf}
 use Rattle.window.proofs.Windows.{number-labels}
 use Rattle.params.specs.declared.MsarParams.{MsarParams}
 use Rattle.params.specs.Parameters.{k, p}
-use Rattle.rows.specs.Rows.{Same}
+use Rattle.rows.specs.Rows.{Same, windowsOf}
 use Rattle.rows.specs.Memory.{predictedFrom, filteredFrom}
 use Rattle.rows.proofs.Rows.{row-at}
 use Rattle.rows.proofs.Places.{place, rows-within}
@@ -35,7 +35,7 @@ use Rattle.prediction.specs.Steps.{firstAt, stepAt, laterAt}
 use Rattle.prediction.proofs.Predicted.{first-row-is, step-at, later-row-is}
 use Rattle.filter.specs.Filter.{weight, total, updated, predictedRow, filteredRow, likelihood, likelihoodCheck, loglikTo, answerAfter}
 use Rattle.filter.specs.declared.Answer.{Answer}
-use Rattle.filter.specs.Steps.{windowsOf, Weighed, Held}
+use Rattle.filter.specs.Steps.{Weighed, Held}
 use Rattle.filter.proofs.Memory.{pair-long, pair-rest, pair-before, pair-first, pair-second}
 
 -- ---- a row counts by its first m places

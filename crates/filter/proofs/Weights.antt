@@ -15,11 +15,12 @@ use Rattle.window.specs.declared.Time.{Time}
 use Rattle.window.proofs.Windows.{number-labels}
 use Rattle.params.specs.declared.MsarParams.{MsarParams}
 use Rattle.params.specs.Parameters.{k, p}
+use Rattle.rows.specs.Rows.{windowsOf}
 use Rattle.density.specs.Density.{density}
 use Rattle.density.specs.Steps.{meanAt, weightAt}
 use Rattle.density.proofs.Weights.{weight-of-tables}
 use Rattle.filter.specs.Filter.{weight, total}
-use Rattle.filter.specs.Steps.{windowsOf, Scales, Weighed}
+use Rattle.filter.specs.Steps.{Scales, Weighed}
 
 -- the window of number a stands at place a
 pub weight-at : (q : MsarParams) (y : List Float) (i : ℕ) (predicted : List Float) → 0 < k q → (a : ℕ) → a < windowsOf q

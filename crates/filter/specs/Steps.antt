@@ -10,14 +10,10 @@ use Rattle.number.specs.Table.{_!_, fillAt}
 use Rattle.window.specs.Windows.{labels}
 use Rattle.params.specs.declared.MsarParams.{MsarParams}
 use Rattle.params.specs.Parameters.{k, p}
-use Rattle.rows.specs.Rows.{Same}
+use Rattle.rows.specs.Rows.{Same, windowsOf}
 use Rattle.rows.specs.Memory.{predictedFrom, filteredFrom}
 use Rattle.density.specs.Steps.{Parts, deviationAt, logAt}
 use Rattle.filter.specs.Filter.{weight, total, predictedRow, filteredRow}
-
--- m = k^(p + 1)
-abbrev pub windowsOf : MsarParams → ℕ
-windowsOf q = k q ^ suc (p q)
 
 -- what the weights of m windows are made of, beside a prediction and the series
 pub record Scales (q : MsarParams) (count order m : ℕ) (means phis deviations logarithms : List Float) : Type 0 where

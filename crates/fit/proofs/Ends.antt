@@ -22,13 +22,13 @@ use Rattle.params.specs.Built.{tidy, nothing}
 use Rattle.params.proofs.Within.{within}
 use Rattle.refusal.specs.Checks.{_when_}
 use Rattle.refusal.proofs.Checks.{both, untrue}
+use Rattle.rows.specs.Rows.{windowsOf}
 use Rattle.binding.specs.Binding.{workNeed, paramsCheck, admittedCheck}
 use Rattle.binding.specs.declared.Bound.{Bound}
 use Rattle.binding.specs.declared.Tables.the-variants.{One}
 use Rattle.em_sample_variance.specs.Series.{sampleVariance}
 use Rattle.em_ridge.specs.Ridge.{small}
 use Rattle.filter.specs.Filter.{runCheck, loglikOf, answerAfter, answerOf}
-use Rattle.filter.specs.Steps.{windowsOf}
 use Rattle.filter.specs.declared.Answer.{Answer}
 use Rattle.calls.specs.Calls.{cleared, smoothedTable}
 use Rattle.calls.proofs.Runs.{rows-fit}

@@ -16,10 +16,10 @@ use Rattle.refusal.specs.declared.Refusal.{Refusal}
 use Rattle.refusal.specs.declared.Refusal.the-variants.{Loglike}
 use Rattle.params.specs.declared.MsarParams.{MsarParams}
 use Rattle.params.specs.declared.Built.{Built}
-use Rattle.rows.specs.Rows.{Same}
+use Rattle.rows.specs.Rows.{Same, windowsOf}
 use Rattle.rows.specs.Memory.{predictedFrom, filteredFrom}
 use Rattle.filter.specs.Filter.{predictedRow, filteredRow, rowCount, startShares, runCheck, loglikOf, answerAfter, answerOf}
-use Rattle.filter.specs.Steps.{windowsOf, Held}
+use Rattle.filter.specs.Steps.{Held}
 use Rattle.filter.specs.declared.Answer.{Answer}
 use Rattle.smoother.specs.Smoother.{smoothedRow}
 use Rattle.smoother.specs.InMemory.{SmoothedRows}

@@ -1,8 +1,8 @@
 -- Places of a row that stands in memory. Assumes nothing.
-use Prim.Native.Nat.{ℕ, suc, _+_, _*_, _<_, _≤_}
-use mathlib.Core.Path.{_≡_, sym, ap}
+use Prim.Native.Nat.{ℕ, _+_, _*_, _<_, _≤_}
+use mathlib.Core.Path.{_≡_, sym}
 use mathlib.Core.List.{List}
-use native.Mathlib.Nat.{add-assoc, add-mul, mul-le-mul-right}
+use native.Mathlib.Nat.{add-assoc}
 use native.Mathlib.Omega.{arith}
 use lib.Arith.{digits-lt, digits-div, digits-mod}
 use lib.ListN.{drop}
@@ -23,18 +23,6 @@ module _ (from i j k power len : ℕ) (h : i < k) (h′ : j < power) (f : from +
 
 pub window-place : (l : List Float) (from i j k : ℕ) → l ! (from + i + j * k) ≡ drop from l ! (i + j * k)
 window-place l from i j k = rw (add-assoc from i (j * k)) (sym (place l from (i + j * k)))
-
--- ---- row i of n rows, predicted and filtered weights together
-
-module _ (m i n : ℕ) (h : i < n) where
-  pub rows-within : 2 * i * m + m + m ≤ 2 * n * m
-  rows-within =
-      let e : 2 * suc i * m ≡ 2 * i * m + 2 * m = rw (← add-mul) (ap (λ (x : ℕ). x * m) (two i)) in
-      let l : 2 * suc i * m ≤ 2 * n * m = mul-le-mul-right m (omega arith) in
-      omega arith
-    where
-      two : (i : ℕ) → 2 * suc i ≡ 2 * i + 2
-      two i = omega arith
 
 -- ---- the table of results, a row at a time
 

@@ -1,8 +1,8 @@
 -- Places of the smoothed table: what stands at place i·m + a, and that the weights of n rows are all that counts. Assumes nothing.
 use Prim.Native.Nat.{ℕ, suc, _+_, _*_, _/_, _%_, _<_, _≤_}
-use mathlib.Core.Path.{_≡_, _∙_}
+use mathlib.Core.Path.{_≡_, ap, _∙_}
 use mathlib.Core.List.{List}
-use native.Mathlib.Nat.{one-le-pow, mod-lt, div-lt-iff-lt-mul}
+use native.Mathlib.Nat.{one-le-pow, mod-lt, div-add-mod', div-lt-iff-lt-mul}
 use native.Mathlib.Omega.{arith}
 use lib.Arith.{digits-lt, digits-div, digits-mod}
 use lib.ListN.{drop}
@@ -13,10 +13,10 @@ use Rattle.window.specs.Time.{timeOf}
 use Rattle.window.proofs.Windows.{label-below}
 use Rattle.params.specs.declared.MsarParams.{MsarParams}
 use Rattle.params.specs.Parameters.{k, p}
-use Rattle.rows.specs.Rows.{Same}
+use Rattle.rows.specs.Rows.{Same, windowsOf}
 use Rattle.rows.specs.Memory.{filteredFrom}
 use Rattle.rows.proofs.Places.{place}
-use Rattle.rows.specs.Smoothed.{windowsOf, places, labelAt, timeAt, weightAt, seen, precision}
+use Rattle.rows.specs.Smoothed.{places, labelAt, timeAt, weightAt, seen, precision}
 
 -- there are windows
 pub windows-positive : (q : MsarParams) → 0 < k q → 0 < windowsOf q
@@ -37,9 +37,10 @@ module _ (q : MsarParams) (i : ℕ) {a : ℕ} (h : a < windowsOf q) where
   pub weight-there : (rows : ℕ → List Float) → weightAt q rows (i * windowsOf q + a) ≡ rows i ! a
   weight-there rows = rw (digits-div i h, digits-mod i h)
 
-  -- rows that stand in work memory
-  pub weight-in-memory : (work : List Float) → weightAt q (λ j. drop (filteredFrom (windowsOf q) j) work) (i * windowsOf q + a) ≡ work ! (filteredFrom (windowsOf q) i + a)
-  weight-in-memory work = weight-there (λ j. drop (filteredFrom (windowsOf q) j) work) ∙ place work (filteredFrom (windowsOf q) i) a
+-- of the rows that stand in work memory, place e has the weight that memory holds at e
+pub weight-in-memory : (q : MsarParams) (work : List Float) (e : ℕ) → weightAt q (λ j. drop (filteredFrom (windowsOf q) j) work) e ≡ work ! e
+weight-in-memory q work e =
+    place work (filteredFrom (windowsOf q) (e / windowsOf q)) (e % windowsOf q) ∙ ap (λ (x : ℕ). work ! x) (div-add-mod' e (windowsOf q))
 
 -- a label of the window at a place
 pub label-at-below : (q : MsarParams) → 0 < k q → (e l : ℕ) → l ≤ p q → labelAt q e l < k q

@@ -7,10 +7,16 @@ use lib.Ieee.{Float}
 use Rattle.number.specs.Sums.{sumUp}
 use Rattle.number.specs.Table.{_!_, tab}
 use Rattle.window.specs.Windows.{number, labels}
+use Rattle.params.specs.declared.MsarParams.{MsarParams}
+use Rattle.params.specs.Parameters.{k, p}
 
 -- the weight of the window w of labels below k
 abbrev pub entry : ℕ → List Float → List ℕ → Float
 entry k row w = row ! number k w
+
+-- m = k^(p + 1), how many windows there are
+abbrev pub windowsOf : MsarParams → ℕ
+windowsOf q = k q ^ suc (p q)
 
 -- the row of f over all windows of order p
 unfoldable pub rowOf : ℕ → ℕ → (List ℕ → Float) → List Float

@@ -11,10 +11,7 @@ use Rattle.window.specs.Time.{timeOf}
 use Rattle.window.specs.declared.Time.{Time}
 use Rattle.params.specs.declared.MsarParams.{MsarParams}
 use Rattle.params.specs.Parameters.{k, p, μ, variance}
-
--- m = k^(p + 1)
-abbrev pub windowsOf : MsarParams → ℕ
-windowsOf q = k q ^ suc (p q)
+use Rattle.rows.specs.Rows.{windowsOf}
 
 -- n rows of m windows
 abbrev pub places : MsarParams → ℕ → ℕ

@@ -50,10 +50,10 @@ fn label_sums(work: &[f64], from: usize, k: usize, power: usize, table: &mut [f6
 
 // The table of results: the probabilities of the labels of n rows of m windows.
 pub fn tabulate(work: &[f64], k: usize, power: usize, m: usize, n: usize, table: &mut [f64])
-    requires { ⌜ (0 < k) × (power * k ≡ m) × (2 * n * m ≤ length (now work)) × (n * k ≤ length (now table)) × (n ≤ 4096) ⌝ }
+    requires { ⌜ (0 < k) × (power * k ≡ m) × (n * m ≤ length (now work)) × (n * k ≤ length (now table)) ⌝ }
     ensures { λ _. ⌜ now (table .exit) ≡ fillAt 0 (labelSumAt k power m (now (work .entry))) (n * k) (now (table .entry)) ⌝ }
 {
     for i in 0..n {
-        label_sums(work, 2 * i * m + m, k, power, table, i * k);
+        label_sums(work, i * m, k, power, table, i * k);
     }
 }

@@ -2,7 +2,6 @@ use Rattle.em_coefficients.proofs.Sums.{tableSum, sideSum, rowsOf, tabl
 use Rattle.em_coefficients.proofs.Parts.{distances-fit}
 use Rattle.em_coefficients.proofs.Walk.{zeros-summed}
 use Rattle.em_coefficients.specs.Steps.{distanceBy}
-use Rattle.rows.specs.Smoothed.{windowsOf}
 use Rattle.rows.proofs.Places.{rows-within}
 use Rattle.window.proofs.Table.{order-at-most-7}
 use Rattle.window.specs.Time.{timeOf}
@@ -10,6 +9,7 @@ use Rattle.window.specs.declared.Time.{Time}
 use Rattle.number.proofs.Table.{fill-long}
 use Rattle.number.specs.Table.{fillAt}
 use Rattle.number.specs.Number.{zero⁺}
+use Rattle.rows.specs.Rows.{windowsOf}
 use native.Mathlib.Numerals.{add-one}
 use native.Mathlib.Nat.{pow-suc}
 use Prim.Native.Nat.{suc, _+_, _*_, _-_, _<_, _≤_}

@@ -8,9 +8,9 @@ use Rattle.number.proofs.Table.{fill-long}
 use Rattle.number.specs.Number.{zero⁺}
 use Rattle.window.proofs.Table.{order-at-most-7}
 use Rattle.window.specs.declared.Time.{Time}
+use Rattle.rows.specs.Rows.{windowsOf}
 use Rattle.rows.proofs.Places.{rows-within}
 use Rattle.rows.specs.Memory.{filteredFrom}
-use Rattle.rows.specs.Smoothed.{windowsOf}
 use Rattle.em_means.specs.Steps.{Summed}
 use Rattle.em_means.proofs.Tables.{windows, lent-for, row-more}
 use Rattle.em_means.proofs.Walk.{summed-none}

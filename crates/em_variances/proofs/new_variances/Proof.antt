@@ -1,7 +1,7 @@
 use Rattle.em_variances.proofs.Sums.{weights-more, squares-more, variances-are}
 use Rattle.em_variances.proofs.Walk.{zeros-summed}
 use Rattle.em_variances.specs.Variances.{inBlock, squareAt}
-use Rattle.rows.specs.Smoothed.{windowsOf, weightAt}
+use Rattle.rows.specs.Smoothed.{weightAt}
 use Rattle.density.specs.Steps.{Parts}
 use Rattle.rows.proofs.Places.{rows-within}
 use Rattle.rows.specs.Memory.{filteredFrom}
@@ -11,6 +11,7 @@ use Rattle.number.proofs.Table.{fill-long}
 use Rattle.number.specs.Table.{fillAt}
 use Rattle.number.specs.Sums.{sumWhere}
 use Rattle.number.specs.Number.{zero⁺}
+use Rattle.rows.specs.Rows.{windowsOf}
 use native.Mathlib.Nat.{pow-suc}
 use Prim.Native.Nat.{zero, _+_, _*_, _-_, _≤_}
 use mathlib.Core.Path.{_≡_, refl, sym, ap, _∙_}

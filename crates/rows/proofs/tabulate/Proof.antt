@@ -8,7 +8,7 @@ use lib.ListN.{length}
 use Rattle.number.specs.Table.{fillAt}
 use Rattle.number.proofs.Table.{fillAt-none, fillAt-long, fill-join, row-before}
 use Rattle.rows.specs.Steps.{labelSumAt}
-use Rattle.rows.proofs.Places.{rows-within, results-of-row}
+use Rattle.rows.proofs.Places.{results-of-row}
 use Rattle.rows.proofs.tabulate.Statement.{statement}
 use Rattle.rows.proofs.tabulate.Tie as tie
 use Rattle.rows.proofs.label_sums.Reads as label-sums-reads
@@ -20,8 +20,8 @@ abbrev μ-loop : tie.MeasureT-loop
 μ-loop work k power m n table₀ i₀ table i = n - i
 
 -- row i in the work memory, and its part of the table
-in-work : (c : tie.In-loop Inv-loop μ-loop) → 2 * c .before .loop .i * c .before .before .before .before .args .m + c .before .before .before .before .args .m + c .before .before .before .before .args .m ≤ length (c .before .before .before .before .args .work .now)
-in-work c = omega (arith, rows-within (c .before .before .before .before .args .m) _ _ (c .loop-test .taken), c .before .before .before .before .pre .2)
+in-work : (c : tie.In-loop Inv-loop μ-loop) → c .before .loop .i * c .before .before .before .before .args .m + c .before .before .before .before .args .m ≤ length (c .before .before .before .before .args .work .now)
+in-work c = omega (arith, row-before (c .before .before .before .before .args .m) _ _ (c .loop-test .taken), c .before .before .before .before .pre .2)
 
 in-table : (c : tie.In-loop Inv-loop μ-loop) → c .before .loop .i * c .before .before .before .before .args .k + c .before .before .before .before .args .k ≤ length (c .before .loop .table)
 in-table c = omega (arith, row-before (c .before .before .before .before .args .k) _ _ (c .loop-test .taken), c .before .before .before .before .pre .3, c .before .loop .inv .1)
@@ -30,16 +30,10 @@ loop-holds : tie.Need-loop-holds Inv-loop μ-loop
 loop-holds c = (omega arith, refl, rw zero-mul (fillAt-none _ _ _))
 
 mul-label-sums : tie.Need-mul-label-sums Inv-loop μ-loop
-mul-label-sums c = omega (arith, c .loop-test .taken, c .before .before .before .before .pre .4)
+mul-label-sums c = omega (arith, in-work c, c .before .before .before .before .good)
 
 mul-label-sums-2 : tie.Need-mul-label-sums-2 Inv-loop μ-loop
-mul-label-sums-2 c = omega (arith, in-work c, c .before .before .before .before .good)
-
-add-label-sums : tie.Need-add-label-sums Inv-loop μ-loop
-add-label-sums c = omega (arith, in-work c, c .before .before .before .before .good)
-
-mul-label-sums-3 : tie.Need-mul-label-sums-3 Inv-loop μ-loop
-mul-label-sums-3 c = omega (arith, in-table (c .before), c .before .before .before .before .before .good)
+mul-label-sums-2 c = omega (arith, in-table (c .before), c .before .before .before .before .before .good)
 
 label-sums-requires : tie.Need-label-sums-requires Inv-loop μ-loop
 label-sums-requires c κs = (omega (arith, in-work (c .before), c .before .before .before .before .before .pre .1), in-table (c .before))
@@ -70,8 +64,6 @@ tabulate-spec =
     loop-holds
     mul-label-sums
     mul-label-sums-2
-    add-label-sums
-    mul-label-sums-3
     label-sums-requires
     (λ c. search needs)
     (λ c. search needs)
