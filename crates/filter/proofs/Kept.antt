@@ -12,7 +12,7 @@ use lib.Ieee.{Float}
 use Rattle.number.specs.Number.{_⊕_, _⊗_, _⊘_, zero⁺, usable}
 use Rattle.number.specs.Table.{_!_, fillAt}
 use Rattle.number.proofs.Sums.{sum-none, sum-next, sum-ext}
-use Rattle.number.proofs.Table.{fill-at}
+use Rattle.number.proofs.Table.{fill-at, row-before}
 use Rattle.log.specs.Log.{logOf}
 use Rattle.refusal.specs.Checks.{each}
 use Rattle.refusal.specs.declared.Check.{Check}
@@ -29,14 +29,13 @@ use Rattle.params.specs.Parameters.{k, p}
 use Rattle.rows.specs.Rows.{Same, windowsOf}
 use Rattle.rows.specs.Memory.{predictedFrom, filteredFrom}
 use Rattle.rows.proofs.Rows.{row-at}
-use Rattle.rows.proofs.Places.{place, rows-within}
+use Rattle.rows.proofs.Stored.{stored-long, stored-there, stored-before, stored-behind, stored-rest}
 use Rattle.density.specs.Density.{density}
 use Rattle.prediction.specs.Steps.{firstAt, stepAt, laterAt}
 use Rattle.prediction.proofs.Predicted.{first-row-is, step-at, later-row-is}
 use Rattle.filter.specs.Filter.{weight, total, updated, predictedRow, filteredRow, likelihood, likelihoodCheck, loglikTo, answerAfter}
 use Rattle.filter.specs.declared.Answer.{Answer}
 use Rattle.filter.specs.Steps.{Weighed, Held}
-use Rattle.filter.proofs.Memory.{pair-long, pair-rest, pair-before, pair-first, pair-second}
 
 -- ---- a row counts by its first m places
 
@@ -53,42 +52,42 @@ module _ (q : MsarParams) (y : List Float) (i : ℕ) (pos : 0 < k q) (row row′
 
 -- ---- before row i
 
-pub record Kept (q : MsarParams) (y shares : List Float) (m past : ℕ) (work₀ : List Float) (i : ℕ) (predicted : List Float) (loglik : Float) (work : List Float) : Type 0 where
+pub record Kept (q : MsarParams) (y shares : List Float) (n m : ℕ) (work₀ : List Float) (i : ℕ) (predicted : List Float) (loglik : Float) (work : List Float) : Type 0 where
   pub passed-so-far : each i (likelihoodCheck q y shares) ≡ Passed
   pub next : Same m predicted (predictedRow q y shares i)
   pub loglik-is : loglik ≡ loglikTo q y shares i
   pub long : length work ≡ length work₀
-  pub rest : drop past work ≡ drop past work₀
-  pub rows : Held q y shares m i work
+  pub rest : drop (2 * (n * m)) work ≡ drop (2 * (n * m)) work₀
+  pub rows : Held q y shares n m i work
 
-module _ (q : MsarParams) (y shares : List Float) (m past : ℕ) (work₀ : List Float) (pos : 0 < k q) (windows : m ≡ windowsOf q) where
+module _ (q : MsarParams) (y shares : List Float) (n m : ℕ) (work₀ : List Float) (pos : 0 < k q) (windows : m ≡ windowsOf q) where
   in-row : (a : ℕ) → a < m → a < windowsOf q
-  in-row a h = subst (λ (n : ℕ). a < n) windows h
+  in-row a h = subst (λ (x : ℕ). a < x) windows h
 
   of-row : (row row′ : List Float) → Same m row row′ → Same (windowsOf q) row row′
-  of-row row row′ same a h = same a (subst (λ (n : ℕ). a < n) (sym windows) h)
+  of-row row row′ same a h = same a (subst (λ (x : ℕ). a < x) (sym windows) h)
 
-  pub kept-none : (l predicted : List Float) → predicted ≡ fillAt 0 (firstAt q shares) m l → Kept q y shares m past work₀ 0 predicted zero⁺ work₀
+  pub kept-none : (l predicted : List Float) → predicted ≡ fillAt 0 (firstAt q shares) m l → Kept q y shares n m work₀ 0 predicted zero⁺ work₀
   unfolding predictedRow loglikTo
   kept-none l predicted e =
       record {
         passed-so-far = each-none _;
-        next = λ a h. first-row-is q shares l (e ∙ ap (λ (n : ℕ). fillAt 0 (firstAt q shares) n l) windows) a (in-row a h);
+        next = λ a h. first-row-is q shares l (e ∙ ap (λ (x : ℕ). fillAt 0 (firstAt q shares) x l) windows) a (in-row a h);
         loglik-is = sum-none _;
         long = refl;
         rest = refl;
         rows = record { predicted = λ j h. absurd (not-suc-le-zero h); filtered = λ j h. absurd (not-suc-le-zero h) };
       }
 
-  module _ (i : ℕ) (predicted weights work : List Float) (ll lik : Float) (kept : Kept q y shares m past work₀ i predicted ll work)
+  module _ (i : ℕ) (predicted weights work : List Float) (ll lik : Float) (kept : Kept q y shares n m work₀ i predicted ll work)
       (weighed : Weighed q y m i predicted weights lik) where
     likelihood-is : lik ≡ likelihood q y shares i
     unfolding likelihood
     likelihood-is = weighed .likelihood-is ∙ total-same q y i pos predicted (predictedRow q y shares i) (of-row predicted (predictedRow q y shares i) (kept .next))
 
-    pub kept-bad : (n : ℕ) → i < n → usable lik ≡ false → each n (likelihoodCheck q y shares) ≡ Failed (Likelihood i)
+    pub kept-bad : i < n → usable lik ≡ false → each n (likelihoodCheck q y shares) ≡ Failed (Likelihood i)
     unfolding likelihoodCheck
-    kept-bad n h u = each-found _ i (kept .passed-so-far) n h (refused _ (ap (λ (x : Float). not (usable x)) likelihood-is) (rw u))
+    kept-bad h u = each-found _ i (kept .passed-so-far) n h (refused _ (ap (λ (x : Float). not (usable x)) likelihood-is) (rw u))
 
     -- row i is done: its weights are divided and stored behind its prediction
     module _ (steps filtered later work′ l : List Float) (power : ℕ) (good : usable lik ≡ true)
@@ -96,8 +95,8 @@ module _ (q : MsarParams) (y shares : List Float) (m past : ℕ) (work₀ : List
         (filtered-are : filtered ≡ fillAt 0 (λ a. weights ! a ⊘ lik) m weights)
         (later-are : later ≡ fillAt 0 (laterAt (k q) power steps filtered) m predicted)
         (counted : k q * power ≡ m)
-        (work-is : work′ ≡ fillAt (2 * i * m + m) (λ a. filtered ! a) m (fillAt (2 * i * m) (λ a. predicted ! a) m work))
-        (fits : 2 * i * m + m + m ≤ length work) (below : 2 * i * m + m + m ≤ past) (logarithm : Float) (logarithm-is : logarithm ≡ logOf lik) where
+        (work-is : work′ ≡ fillAt (n * m + i * m) (λ a. predicted ! a) m (fillAt (i * m) (λ a. filtered ! a) m work))
+        (inside : i < n) (fits : 2 * (n * m) ≤ length work₀) (logarithm : Float) (logarithm-is : logarithm ≡ logOf lik) where
       filtered-is : Same m filtered (filteredRow q y shares i)
       unfolding filteredRow updated
       filtered-is a h =
@@ -112,46 +111,61 @@ module _ (q : MsarParams) (y shares : List Float) (m past : ℕ) (work₀ : List
       next-is a h =
           rw add-one
           (later-row-is q pos steps filtered (filteredRow q y shares i) power-is (of-row filtered (filteredRow q y shares i) filtered-is) predicted
-          (step-at q l (steps-are ∙ ap (λ (n : ℕ). fillAt 0 (stepAt q) n l) windows))
-          (later-are ∙ ap (λ (n : ℕ). fillAt 0 (laterAt (k q) power steps filtered) n predicted) (sym counted))
+          (step-at q l (steps-are ∙ ap (λ (x : ℕ). fillAt 0 (stepAt q) x l) windows))
+          (later-are ∙ ap (λ (x : ℕ). fillAt 0 (laterAt (k q) power steps filtered) x predicted) (sym counted))
           a (in-row a h))
 
-      held : Held q y shares m (i + 1) work′
+      -- the filtered row is stored first, the prediction behind all filtered rows
+      half : List Float
+      half = fillAt (i * m) (λ a. filtered ! a) m work
+
+      room : i * m + m ≤ n * m
+      room = row-before m i n inside
+
+      first-fits : i * m + m ≤ length work
+      first-fits = omega (arith, room, fits, kept .long)
+
+      second-fits : n * m + i * m + m ≤ length half
+      unfolding half
+      second-fits = omega (arith, room, fits, kept .long, stored-long (i * m) m (λ a. filtered ! a) work first-fits refl)
+
+      held : Held q y shares n m (i + 1) work′
+      unfolding half
       held =
           record {
-            predicted = λ j h. ⊎-elim (λ (e : j ≡ i). rw e (λ a g. pair-first _ m _ _ _ _ work-is fits a g ∙ kept .next a g)) (λ l a g. before j l (predictedFrom m j) (omega arith) a g ∙ kept .rows .predicted j l a g) (eq-or-lt-of-le (le-of-suc-le-suc (rw add-one at h)));
-            filtered = λ j h. ⊎-elim (λ (e : j ≡ i). rw e (λ a g. pair-second _ m _ _ _ _ work-is fits a g ∙ filtered-is a g)) (λ l a g. before j l (filteredFrom m j) (omega arith) a g ∙ kept .rows .filtered j l a g) (eq-or-lt-of-le (le-of-suc-le-suc (rw add-one at h)));
+            filtered = λ j h. ⊎-elim
+                (λ (d : j ≡ i). rw d (λ a g. stored-before _ m _ half second-fits work-is (i * m) (omega (arith, room)) a g ∙ stored-there _ m _ work first-fits refl a g ∙ filtered-is a g))
+                (λ (l : j < i) a g. stored-before _ m _ half second-fits work-is (j * m) (omega (arith, row-before m j i l)) a g ∙ stored-before _ m _ work first-fits refl (j * m) (row-before m j i l) a g ∙ kept .rows .filtered j l a g)
+                (eq-or-lt-of-le (le-of-suc-le-suc (rw add-one at h)));
+            predicted = λ j h. ⊎-elim
+                (λ (d : j ≡ i). rw d (λ a g. stored-there _ m _ half second-fits work-is a g ∙ kept .next a g))
+                (λ (l : j < i) a g. stored-before _ m _ half second-fits work-is (predictedFrom n m j) (omega (arith, row-before m j i l)) a g ∙ stored-behind _ m _ work first-fits refl (predictedFrom n m j) (omega (arith, room)) a g ∙ kept .rows .predicted j l a g)
+                (eq-or-lt-of-le (le-of-suc-le-suc (rw add-one at h)));
           }
-        where
-          -- an earlier row is as it was
-          before : (j : ℕ) → j < i → (s : ℕ) → s ≤ 2 * j * m + m → (a : ℕ) → a < m → drop s work′ ! a ≡ drop s work ! a
-          before j l s u a g =
-              let d : 2 * j * m + m + m ≤ 2 * i * m = rows-within m j i l in
-              place work′ s a ∙ pair-before _ m _ _ _ _ work-is fits (s + a) (omega arith) ∙ sym (place work s a)
 
-      pub kept-more : Kept q y shares m past work₀ (i + 1) later (ll ⊕ logarithm) work′
-      unfolding loglikTo likelihoodCheck
+      pub kept-more : Kept q y shares n m work₀ (i + 1) later (ll ⊕ logarithm) work′
+      unfolding loglikTo likelihoodCheck half
       kept-more =
           record {
             passed-so-far = each-more _ i (kept .passed-so-far) (passed _ (ap (λ (x : Float). not (usable x)) likelihood-is) (rw good));
             next = next-is;
             loglik-is = sum-next _ i (kept .loglik-is) (logarithm-is ∙ ap logOf likelihood-is);
-            long = pair-long _ m _ _ _ _ work-is fits ∙ kept .long;
-            rest = pair-rest _ m _ _ _ _ work-is fits past below ∙ kept .rest;
+            long = stored-long _ m _ half second-fits work-is ∙ stored-long _ m _ work first-fits refl ∙ kept .long;
+            rest = stored-rest _ m _ half second-fits work-is (2 * (n * m)) (omega (arith, room)) ∙ stored-rest _ m _ work first-fits refl (2 * (n * m)) (omega (arith, room)) ∙ kept .rest;
             rows = held;
           }
 
 -- ---- after the last row
 
-module _ (q : MsarParams) (y shares : List Float) (m past : ℕ) (work₀ : List Float) (i n : ℕ) (predicted work : List Float) (ll : Float)
-    (kept : Kept q y shares m past work₀ i predicted ll work) (all : i ≡ n) where
+module _ (q : MsarParams) (y shares : List Float) (n m : ℕ) (work₀ : List Float) (i : ℕ) (predicted work : List Float) (ll : Float)
+    (kept : Kept q y shares n m work₀ i predicted ll work) (all : i ≡ n) where
   pub answer-is : record { check = Passed; loglik = ll } ≡ answerAfter (each n (likelihoodCheck q y shares)) (loglikTo q y shares n)
   answer-is =
       ap (λ (x : Float). answerAfter Passed x) (kept .loglik-is ∙ ap (loglikTo q y shares) all)
       ∙ ap (λ (d : Check). answerAfter d (loglikTo q y shares n)) (sym (sym (ap (λ (j : ℕ). each j (likelihoodCheck q y shares)) all) ∙ kept .passed-so-far))
 
-  pub all-held : Held q y shares m n work
-  all-held = subst (λ (j : ℕ). Held q y shares m j work) all (kept .rows)
+  pub all-held : Held q y shares n m n work
+  all-held = subst (λ (j : ℕ). Held q y shares n m j work) all (kept .rows)
 
 -- ---- an answer that refuses has not passed
 

@@ -1,5 +1,6 @@
 -- The filter: for each row the predicted and the filtered weights of the windows and the likelihood of its reading; the log-likelihood of all.
--- After Hamilton (1989) and document 01, "Update"; refusals 21 to 23. The parameters have passed their checks, and k and p are theirs.
+-- After Hamilton (1989) and document 01, "Update"; refusal 23. The parameters have passed their checks, and k and p are theirs; the shares from which
+-- it starts are handed to it.
 use Prim.Native.Nat.{ℕ, zero, suc, _-_, _^_}
 use mathlib.Core.Bool.{not}
 use mathlib.Core.List.{List}
@@ -10,13 +11,12 @@ use Rattle.number.specs.Sums.{sumUp}
 use Rattle.log.specs.Log.{logOf}
 use Rattle.window.specs.Time.{timeOf}
 use Rattle.window.specs.Windows.{labels}
-use Rattle.refusal.specs.Checks.{_before_, _when_, each}
+use Rattle.refusal.specs.Checks.{_when_, each}
 use Rattle.refusal.specs.declared.Check.{Check}
 use Rattle.refusal.specs.declared.Check.the-variants.{Passed, Failed}
 use Rattle.refusal.specs.declared.Refusal.the-variants.{Likelihood}
 use Rattle.params.specs.declared.MsarParams.{MsarParams}
 use Rattle.params.specs.Parameters.{k, p}
-use Rattle.stationary.specs.Stationary.{solvedShares}
 use Rattle.rows.specs.Rows.{entry, rowOf}
 use Rattle.density.specs.Density.{density}
 use Rattle.prediction.specs.Prediction.{firstPrediction, laterPrediction}
@@ -37,7 +37,7 @@ module _ (q : MsarParams) (y : List Float) (i : ℕ) (predicted : List Float) wh
   unfoldable pub updated : List Float
   updated = rowOf (k q) (p q) (λ w. weight w ⊘ total)
 
--- ---- all rows, from the shares of the labels
+-- ---- all rows, from the shares of the labels at the start
 
 module _ (q : MsarParams) (y : List Float) (shares : List Float) where
   unfoldable pub predictedRow : ℕ → List Float
@@ -58,26 +58,23 @@ module _ (q : MsarParams) (y : List Float) (shares : List Float) where
   unfoldable pub loglikTo : ℕ → Float
   loglikTo n = sumUp (λ i. logOf (likelihood i)) n
 
--- ---- the whole, from the stationary shares
+-- ---- the whole
 
 -- n = T - p
 abbrev pub rowCount : MsarParams → List Float → ℕ
 rowCount q y = length y - p q
 
-abbrev pub startShares : MsarParams → List Float
-startShares q = solvedShares (k q) (q .transition) .values
+-- 23 at the first row that gives it
+unfoldable pub filterCheck : MsarParams → List Float → List Float → Check
+filterCheck q y shares = each (rowCount q y) (likelihoodCheck q y shares)
 
--- what a run may refuse with: 21 or 22 of the shares, then 23 at the first row that gives it
-unfoldable pub runCheck : MsarParams → List Float → Check
-runCheck q y = solvedShares (k q) (q .transition) .check before each (rowCount q y) (likelihoodCheck q y (startShares q))
-
-unfoldable pub loglikOf : MsarParams → List Float → Float
-loglikOf q y = loglikTo q y (startShares q) (rowCount q y)
+unfoldable pub loglikOf : MsarParams → List Float → List Float → Float
+loglikOf q y shares = loglikTo q y shares (rowCount q y)
 
 -- after a refusal the log-likelihood is zero
 abbrev pub answerAfter : Check → Float → Answer
 answerAfter Passed loglik = record { check = Passed; loglik = loglik }
 answerAfter (Failed r) loglik = record { check = Failed r; loglik = zero⁺ }
 
-unfoldable pub answerOf : MsarParams → List Float → Answer
-answerOf q y = answerAfter (runCheck q y) (loglikOf q y)
+unfoldable pub filterAnswer : MsarParams → List Float → List Float → Answer
+filterAnswer q y shares = answerAfter (filterCheck q y shares) (loglikOf q y shares)

@@ -26,7 +26,7 @@ pub record Weighed (q : MsarParams) (y : List Float) (m i : ℕ) (predicted weig
   pub weights-are : (a : ℕ) → a < m → weights ! a ≡ weight q y i predicted (labels (k q) (suc (p q)) a)
   pub likelihood-is : likelihood ≡ total q y i predicted
 
--- the rows before row i stand in work memory
-pub record Held (q : MsarParams) (y shares : List Float) (m i : ℕ) (work : List Float) : Type 0 where
-  pub predicted : (j : ℕ) → j < i → Same m (drop (predictedFrom m j) work) (predictedRow q y shares j)
+-- of n rows those before row i stand in work memory
+pub record Held (q : MsarParams) (y shares : List Float) (n m i : ℕ) (work : List Float) : Type 0 where
   pub filtered : (j : ℕ) → j < i → Same m (drop (filteredFrom m j) work) (filteredRow q y shares j)
+  pub predicted : (j : ℕ) → j < i → Same m (drop (predictedFrom n m j) work) (predictedRow q y shares j)

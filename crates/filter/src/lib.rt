@@ -12,7 +12,7 @@ ghost use Rattle.params.specs.declared.MsarParams.{MsarParams};
 ghost use Rattle.params.specs.Parameters.{k, p};
 ghost use Rattle.rows.specs.Rows.{windowsOf};
 ghost use Rattle.prediction.specs.Steps.{laterAt, stepAt};
-ghost use Rattle.filter.specs.Filter.{likelihoodCheck, loglikTo, startShares, answerAfter, answerOf};
+ghost use Rattle.filter.specs.Filter.{likelihoodCheck, loglikTo, answerAfter, filterAnswer};
 ghost use Rattle.filter.specs.Steps.{Scales, Weighed, Held};
 use params::MsarParams;
 use refusal::Check;
@@ -79,14 +79,20 @@ pub fn divide(weights: &mut [f64; 256], likelihood: f64, m: usize)
     }
 }
 
-// Predicted and filtered weights of row i, to their places in work memory.
-fn keep(predicted: &[f64; 256], filtered: &[f64; 256], m: usize, i: usize, work: &mut [f64])
-    requires { ⌜ (m ≤ 256) × (i < 4096) × (2 * i * m + m + m ≤ length (now work)) ⌝ }
-    ensures { λ _. ⌜ now (work .exit) ≡ fillAt (2 * i * m + m) (λ a. now (filtered .entry) ! a) m (fillAt (2 * i * m) (λ a. now (predicted .entry) ! a) m (now (work .entry))) ⌝ }
+// Filtered and predicted weights of row i of n, to their places in work memory.
+fn keep(
+    predicted: &[f64; 256],
+    filtered: &[f64; 256],
+    n: usize,
+    m: usize,
+    i: usize,
+    work: &mut [f64],
+)
+    requires { ⌜ (m ≤ 256) × (i < n) × (2 * (n * m) ≤ length (now work)) ⌝ }
+    ensures { λ _. ⌜ now (work .exit) ≡ fillAt (n * m + i * m) (λ a. now (predicted .entry) ! a) m (fillAt (i * m) (λ a. now (filtered .entry) ! a) m (now (work .entry))) ⌝ }
 {
-    let at = 2 * i * m;
-    rows::store(predicted, m, work, at);
-    rows::store(filtered, m, work, at + m);
+    rows::store(filtered, m, work, i * m);
+    rows::store(predicted, m, work, n * m + i * m);
 }
 
 // Row i is done: its weights are divided, kept with its prediction, and give the prediction of the next row.
@@ -97,17 +103,18 @@ fn advance(
     power: usize,
     m: usize,
     i: usize,
+    n: usize,
     predicted: &mut [f64; 256],
     weights: &mut [f64; 256],
     work: &mut [f64],
 )
-    requires { ⌜ (0 < k) × (k * power ≡ m) × (m ≤ 256) × (i < 4096) × (length (now predicted) ≡ 256) × (length (now weights) ≡ 256) × (2 * i * m + m + m ≤ length (now work)) ⌝ }
+    requires { ⌜ (0 < k) × (k * power ≡ m) × (m ≤ 256) × (i < n) × (length (now predicted) ≡ 256) × (length (now weights) ≡ 256) × (2 * (n * m) ≤ length (now work)) ⌝ }
     ensures weights { λ _. ⌜ now (weights .exit) ≡ fillAt 0 (λ a. now (weights .entry) ! a ⊘ likelihood) m (now (weights .entry)) ⌝ }
     ensures predicted { λ _. ⌜ now (predicted .exit) ≡ fillAt 0 (laterAt k power (now (steps .entry)) (now (weights .exit))) m (now (predicted .entry)) ⌝ }
-    ensures work { λ _. ⌜ now (work .exit) ≡ fillAt (2 * i * m + m) (λ a. now (weights .exit) ! a) m (fillAt (2 * i * m) (λ a. now (predicted .entry) ! a) m (now (work .entry))) ⌝ }
+    ensures work { λ _. ⌜ now (work .exit) ≡ fillAt (n * m + i * m) (λ a. now (predicted .entry) ! a) m (fillAt (i * m) (λ a. now (weights .exit) ! a) m (now (work .entry))) ⌝ }
 {
     divide(weights, likelihood, m);
-    keep(predicted, weights, m, i, work);
+    keep(predicted, weights, n, m, i, work);
     prediction::later_row(steps, weights, k, power, predicted);
 }
 
@@ -127,12 +134,12 @@ fn each_row(
     work: &mut [f64],
 ) -> Answer
     requires { ⌜ Shape (k q) (p q) ⌝ }
-    requires { ⌜ (m ≡ windowsOf q) × (k q * power ≡ m) × (power ≡ k q ^ p q) × (p q + n ≡ length (now y)) × (length (now y) ≤ 4096) × (2 * n * m ≤ length (now work)) ⌝ }
+    requires { ⌜ (m ≡ windowsOf q) × (k q * power ≡ m) × (power ≡ k q ^ p q) × (p q + n ≡ length (now y)) × (length (now y) ≤ 4096) × (2 * (n * m) ≤ length (now work)) ⌝ }
     requires { ⌜ (now powers ≡ powersOf (k q) (p q)) × (now steps ≡ fillAt 0 (stepAt q) m (replicate 256 zero⁺)) ⌝ }
     requires { ⌜ Scales q (k q) (p q) m (q .means) (now phis) (now deviations) (now logarithms) ⌝ }
     ensures answer { λ r. ⌜ r ≡ answerAfter (each n (likelihoodCheck q (now (y .entry)) (now (shares .entry)))) (loglikTo q (now (y .entry)) (now (shares .entry)) n) ⌝ }
-    ensures same { λ _. ⌜ (length (now (work .exit)) ≡ length (now (work .entry))) × (drop (2 * n * m) (now (work .exit)) ≡ drop (2 * n * m) (now (work .entry))) ⌝ }
-    ensures rows { λ r. ⌜ (r .check ≡ Passed → Held q (now (y .entry)) (now (shares .entry)) m n (now (work .exit))) ⌝ }
+    ensures same { λ _. ⌜ (length (now (work .exit)) ≡ length (now (work .entry))) × (drop (2 * (n * m)) (now (work .exit)) ≡ drop (2 * (n * m)) (now (work .entry))) ⌝ }
+    ensures rows { λ r. ⌜ (r .check ≡ Passed → Held q (now (y .entry)) (now (shares .entry)) n m n (now (work .exit))) ⌝ }
 {
     let mut predicted = [0.0; 256];
     prediction::first_row(q, shares, powers, m, &mut predicted);
@@ -166,6 +173,7 @@ fn each_row(
             power,
             m,
             i,
+            n,
             &mut predicted,
             &mut weights,
             work,
@@ -178,21 +186,23 @@ fn each_row(
     }
 }
 
-// The filter of a series, from the stationary shares: 21 or 22 of these, then the rows. n is the count of rows, m that
-// of windows, power k^order.
-pub fn run(q: MsarParams, power: usize, m: usize, y: &[f64], n: usize, work: &mut [f64]) -> Answer
+// The filter of a series, from the shares of the labels at the start. n is the count of rows, m that of windows, power
+// k^order.
+pub fn run(
+    q: MsarParams,
+    shares: &[f64; 16],
+    power: usize,
+    m: usize,
+    y: &[f64],
+    n: usize,
+    work: &mut [f64],
+) -> Answer
     requires { ⌜ Shape (k q) (p q) ⌝ }
-    requires { ⌜ (m ≡ windowsOf q) × (power ≡ k q ^ p q) × (p q + n ≡ length (now y)) × (length (now y) ≤ 4096) × (2 * n * m ≤ length (now work)) ⌝ }
-    ensures answer { λ r. ⌜ r ≡ answerOf q (now (y .entry)) ⌝ }
-    ensures same { λ _. ⌜ (length (now (work .exit)) ≡ length (now (work .entry))) × (drop (2 * n * m) (now (work .exit)) ≡ drop (2 * n * m) (now (work .entry))) ⌝ }
-    ensures rows { λ r. ⌜ (r .check ≡ Passed → Held q (now (y .entry)) (startShares q) m n (now (work .exit))) ⌝ }
+    requires { ⌜ (m ≡ windowsOf q) × (power ≡ k q ^ p q) × (p q + n ≡ length (now y)) × (length (now y) ≤ 4096) × (2 * (n * m) ≤ length (now work)) ⌝ }
+    ensures answer { λ r. ⌜ r ≡ filterAnswer q (now (y .entry)) (now (shares .entry)) ⌝ }
+    ensures same { λ _. ⌜ (length (now (work .exit)) ≡ length (now (work .entry))) × (drop (2 * (n * m)) (now (work .exit)) ≡ drop (2 * (n * m)) (now (work .entry))) ⌝ }
+    ensures rows { λ r. ⌜ (r .check ≡ Passed → Held q (now (y .entry)) (now (shares .entry)) n m n (now (work .exit))) ⌝ }
 {
-    let shares = stationary::solved_shares(&q.transition, q.means_count);
-    let check = shares.check;
-    if let Check::Failed(r) = check {
-        return refused(r);
-    }
-    let start = shares.values;
     let powers = window::powers(q.means_count, q.order);
     let phis = density::phis(q);
     let deviations = density::deviations(q, m);
@@ -200,7 +210,7 @@ pub fn run(q: MsarParams, power: usize, m: usize, y: &[f64], n: usize, work: &mu
     let steps = prediction::steps(q, m);
     each_row(
         q,
-        &start,
+        shares,
         &powers,
         &phis,
         &deviations,

@@ -1,5 +1,7 @@
 -- places of a row in memory
 pub mod Places
+-- a row stored in memory
+pub mod Stored
 -- rows and probabilities
 pub mod Rows
 -- what stands at a place of the smoothed table

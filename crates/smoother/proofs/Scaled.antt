@@ -39,13 +39,13 @@ block-more sums count at x l {m} e e′ h =
     ∙ rw (add-one, suc-mul)
 
 -- a row times the sums that its windows share is the smoothed row
-pub row-done : {k power count stride blocks : ℕ} (w : Sharing k power count stride blocks) (T : List Float) (at : ℕ) (l sums₀ : List Float)
+pub row-done : {k power count stride blocks : ℕ} (w : Sharing k power count stride blocks) (T : List Float) (at ahead : ℕ) (l sums₀ : List Float)
     {l′ sums : List Float}
-    → sums ≡ fillAt 0 (sharedSum k stride T (drop (at + 2 * (power * k)) l) (drop (at + power * k) l)) count sums₀
+    → sums ≡ fillAt 0 (sharedSum k stride T (drop (at + power * k) l) (drop ahead l)) count sums₀
     → l′ ≡ fillAt at (blockwise count sums (drop at l)) (blocks * count) l
-    → l′ ≡ fillAt at (smoothedIn k (power * k) count stride T at l) (power * k) l
+    → l′ ≡ fillAt at (smoothedIn k (power * k) count stride T at ahead l) (power * k) l
 unfolding blockwise smoothedIn
-row-done {count = count} w T at l sums₀ e e′ =
+row-done {count = count} w T at ahead l sums₀ e e′ =
     rw (w .whole) at e′
     ∙ fillAt-ext at _ _ l _
     (λ a b. ap (λ x. drop at l ! a ⊗ x) (rw zero-add at (fillAt-at 0 _ count sums₀ e (a % count) (mod-lt a (w .some)) (omega arith))))

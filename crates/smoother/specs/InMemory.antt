@@ -14,11 +14,11 @@ use Rattle.smoother.specs.Smoother.{smoothedRow}
 abbrev pub Stand : ℕ → ℕ → (ℕ → ℕ) → List Float → (ℕ → List Float) → Type 0
 Stand n m from work rows = (i : ℕ) → i < n → Same m (drop (from i) work) (rows i)
 
--- memory with n rows, before and after. What lies behind the rows is as it was
+-- memory with n rows, before and after. What lies behind the filtered rows is as it was
 pub record SmoothedRows (q : MsarParams) (n : ℕ) (before after : List Float) : Type 0 where
   pub long : length after ≡ length before
-  pub rest : drop (2 * n * k q ^ suc (p q)) after ≡ drop (2 * n * k q ^ suc (p q)) before
+  pub rest : drop (n * k q ^ suc (p q)) after ≡ drop (n * k q ^ suc (p q)) before
   pub rows : (predicted filtered : ℕ → List Float)
-      → Stand n (k q ^ suc (p q)) (predictedFrom (k q ^ suc (p q))) before predicted
+      → Stand n (k q ^ suc (p q)) (predictedFrom n (k q ^ suc (p q))) before predicted
       → Stand n (k q ^ suc (p q)) (filteredFrom (k q ^ suc (p q))) before filtered
       → Stand n (k q ^ suc (p q)) (filteredFrom (k q ^ suc (p q))) after (λ i. smoothedRow q predicted filtered (n - 1 - i) i)

@@ -41,7 +41,7 @@ scaledAt sums row a = row ! a ⊗ sums ! a
 unfoldable pub blockwise : ℕ → List Float → List Float → ℕ → Float
 blockwise count sums row a = row ! a ⊗ sums ! (a % count)
 
--- the smoothed weight of window a, whose row stands from `from` on; the next row's predicted and smoothed weights follow
-unfoldable pub smoothedIn : ℕ → ℕ → ℕ → ℕ → List Float → ℕ → List Float → ℕ → Float
-smoothedIn k m count stride T from work a =
-    drop from work ! a ⊗ sharedSum k stride T (drop (from + 2 * m) work) (drop (from + m) work) (a % count)
+-- the smoothed weight of window a, whose row stands from `from` on; the next row's smoothed weights follow it, its predicted ones stand from `ahead` on
+unfoldable pub smoothedIn : ℕ → ℕ → ℕ → ℕ → List Float → ℕ → ℕ → List Float → ℕ → Float
+smoothedIn k m count stride T from ahead work a =
+    drop from work ! a ⊗ sharedSum k stride T (drop (from + m) work) (drop ahead work) (a % count)

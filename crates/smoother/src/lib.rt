@@ -102,27 +102,29 @@ fn scale_row(sums: &[f64; 256], count: usize, blocks: usize, at: usize, work: &m
     }
 }
 
-// The filtered row from `at` on becomes the smoothed one. The next row's predicted and smoothed weights follow it.
+// The filtered row from `at` on becomes the smoothed one. The next row's smoothed weights follow it, its predicted ones
+// stand from `ahead` on.
 fn smooth_row(
     transition: &[f64; 256],
     k: usize,
     power: usize,
     shared: Shared,
     at: usize,
+    ahead: usize,
     sums: &mut [f64; 256],
     work: &mut [f64],
 )
-    requires { ⌜ (0 < k) × (k ≤ 16) × (0 < power) × (power * k ≤ 256) × (at + 3 * (power * k) ≤ length (now work)) × (length (now sums) ≡ 256) ⌝ }
+    requires { ⌜ (0 < k) × (k ≤ 16) × (0 < power) × (power * k ≤ 256) × (at + 2 * (power * k) ≤ length (now work)) × (ahead + power * k ≤ length (now work)) × (length (now sums) ≡ 256) ⌝ }
     requires { ⌜ Sharing k power (shared .count) (shared .stride) (shared .blocks) ⌝ }
-    ensures { λ _. ⌜ (length (now (sums .exit)) ≡ 256) × (now (work .exit) ≡ fillAt at (smoothedIn k (power * k) (shared .count) (shared .stride) (now (transition .entry)) at (now (work .entry))) (power * k) (now (work .entry))) ⌝ }
+    ensures { λ _. ⌜ (length (now (sums .exit)) ≡ 256) × (now (work .exit) ≡ fillAt at (smoothedIn k (power * k) (shared .count) (shared .stride) (now (transition .entry)) at ahead (now (work .entry))) (power * k) (now (work .entry))) ⌝ }
 {
     let m = power * k;
     let count = shared.count;
     sums_after(
         transition,
         work,
-        at + 2 * m,
         at + m,
+        ahead,
         k,
         count,
         shared.stride,
@@ -134,7 +136,7 @@ fn smooth_row(
 // The smoothed rows, in the place of the filtered ones.
 pub fn smooth(q: MsarParams, power: usize, n: usize, work: &mut [f64])
     requires { ⌜ Shape (k q) (p q) ⌝ }
-    requires { ⌜ (power ≡ k q ^ p q) × (0 < n) × (n ≤ 4096) × (2 * n * k q ^ suc (p q) ≤ length (now work)) ⌝ }
+    requires { ⌜ (power ≡ k q ^ p q) × (0 < n) × (2 * (n * k q ^ suc (p q)) ≤ length (now work)) ⌝ }
     ensures { λ _. ⌜ SmoothedRows q n (now (work .entry)) (now (work .exit)) ⌝ }
 {
     let k = q.means_count;
@@ -149,7 +151,8 @@ pub fn smooth(q: MsarParams, power: usize, n: usize, work: &mut [f64])
             k,
             power,
             shared,
-            2 * i * m + m,
+            i * m,
+            n * m + i * m + m,
             &mut sums,
             work,
         );

@@ -1,4 +1,4 @@
-use Prim.Native.Nat.{_-_}
+-- `advance` meets its contract: what its three calls leave.
 use borrow.Author.Needs.{needs}
 use Rattle.filter.proofs.advance.Statement.{statement}
 use Rattle.filter.proofs.advance.Tie as tie
@@ -6,8 +6,17 @@ use Rattle.filter.proofs.divide.Reads as divide-reads
 use Rattle.filter.proofs.keep.Reads as keep-reads
 use Rattle.prediction.proofs.later_row.Reads as later-row-reads
 
+abbrev kept : tie.After-later-row → tie.After-keep
+kept c = c .before .before .before .before .before
+
+abbrev divided : tie.After-keep → tie.After-divide
+divided c = c .before .before .before .before
+
+abbrev start : tie.After-divide → tie.Start
+start c = c .before .before .before
+
 returns : tie.Need-returns
-returns c = (c .before .before .before .before .before .before .before .before .before .divide .ensures, (rw (c .before .before .before .before .before .before .before .before .before .before .before .before .pre .1) at (c .later-row .ensures), c .before .before .before .before .before .keep .ensures))
+returns c = (divided (kept c) .divide .ensures, (rw (start (divided (kept c)) .pre .1) at (c .later-row .ensures), kept c .keep .ensures))
 
 pub advance-spec : {M : Type 1} → statement M
 advance-spec =
