@@ -3,7 +3,7 @@ use Prim.Native.Nat.{ℕ, suc, _+_, _-_, _*_, _/_, _^_, _<_, _≤_}
 use mathlib.Core.Path.{_≡_, refl, sym, ap, _∙_}
 use mathlib.Core.Bool.{Bool, true, false, _&&_, Bool·beq}
 use mathlib.Core.List.{List}
-use native.Mathlib.Nat.{pow-suc, mul-div-cancel, mul-le-mul}
+use native.Mathlib.Nat.{pow-suc, mul-div-cancel, mul-le-mul, zero-mul}
 use native.Mathlib.Omega.{arith}
 use borrow.Author.Tests.{ltb-false, leb-false, eqb-true, not-false}
 use lib.ListN.{length}
@@ -23,9 +23,8 @@ use Rattle.window.specs.Shape.{Shape}
 use Rattle.params.specs.declared.MsarParams.{MsarParams}
 use Rattle.params.specs.Parameters.{k, p, switches, matchesSpec}
 use Rattle.params.specs.Checks.{parameterCheck}
-use Rattle.binding.specs.Binding.{seriesCheck, boundCheck, boundAfter, boundOf, workNeed, tableNeed, memoryCheck, tablesCheck, paramsCheck, admittedCheck, admitted}
+use Rattle.binding.specs.Binding.{lengthCheck, readingsCheck, boundCheck, boundAfter, boundOf, paramsCheck, admittedCheck}
 use Rattle.binding.specs.declared.Bound.{Bound}
-use Rattle.binding.specs.declared.Tables.{Tables}
 
 -- ---- the window count
 
@@ -60,15 +59,15 @@ pub record Fits (S : MsarSpec) (y : List Float) : Type 0 where
   pub short : length y ≤ 4096
 
 pub fits : (S : MsarSpec) (y : List Float) → boundCheck S y ≡ Passed → Fits S y
-unfolding boundCheck seriesCheck
+unfolding boundCheck lengthCheck
 fits S y e =
     let c₁ = both (specCheck (S .«k_regimes») (S .order)) e in
-    let c₂ = both (ShortSeries (S .order + 1) when length y ≤? S .order) (c₁ .1) in
-    let c₃ = both (LongSeries (length y) when 4096 <? length y) (c₂ .1) in
+    let c₂ = both (lengthCheck (S .order) (length y)) (c₁ .1) in
+    let c₃ = both (ShortSeries (S .order + 1) when length y ≤? S .order) (c₂ .0) in
     record {
       shape = shape-of _ _ (c₁ .0);
-      longer = leb-false _ _ (untrue _ _ (c₂ .0));
-      short = ltb-false _ _ (untrue _ _ (c₃ .0));
+      longer = leb-false _ _ (untrue _ _ (c₃ .0));
+      short = ltb-false _ _ (untrue _ _ (c₃ .1));
     }
 
 -- ---- the parameters under the spec
@@ -89,6 +88,11 @@ same-shape S q e =
     let c = all-true (k q =? S .«k_regimes») (b .0) in
     (eqb-true _ _ (c .0), eqb-true _ _ (c .1))
 
+-- what stands behind a check counts where it passed
+own-later : (c : Check) {a d : Check} → (c ≡ Passed → a ≡ d) → (c before a) ≡ (c before d)
+own-later Passed f = f refl
+own-later (Failed r) f = refl
+
 -- ---- what binding gives
 
 module _ (S : MsarSpec) (y : List Float) where
@@ -96,12 +100,12 @@ module _ (S : MsarSpec) (y : List Float) where
   unfolding boundOf boundCheck
   bound-spec e = rw e
 
-  pub bound-series : {r : Refusal} → specCheck (S .«k_regimes») (S .order) ≡ Passed → seriesCheck (S .order) y ≡ Failed r
+  pub bound-series : {r : Refusal} → specCheck (S .«k_regimes») (S .order) ≡ Passed → (lengthCheck (S .order) (length y) before readingsCheck y) ≡ Failed r
       → boundAfter (Failed r) S y ≡ boundOf S y
   unfolding boundOf boundCheck
   bound-series e d = rw (e, d)
 
-  pub bound-check : specCheck (S .«k_regimes») (S .order) ≡ Passed → seriesCheck (S .order) y ≡ Passed → boundCheck S y ≡ Passed
+  pub bound-check : specCheck (S .«k_regimes») (S .order) ≡ Passed → (lengthCheck (S .order) (length y) before readingsCheck y) ≡ Passed → boundCheck S y ≡ Passed
   unfolding boundCheck
   bound-check e d = rw (e, d)
 
@@ -109,15 +113,20 @@ module _ (S : MsarSpec) (y : List Float) where
   unfolding boundOf
   bound-passed e = rw e
 
+  bound-refused : {r : Refusal} → boundCheck S y ≡ Failed r → boundOf S y ≡ boundAfter (Failed r) S y
+  unfolding boundOf
+  bound-refused e = rw e
+
+  -- ---- what was bound
+
   bound-says : (c : Check) → boundAfter c S y .check ≡ c
   bound-says Passed = refl
   bound-says (Failed r) = refl
 
-  -- what was bound
   module _ {b : Bound} (e : b ≡ boundOf S y) where
-    pub check-of : {c : Check} → b .check ≡ c → boundCheck S y ≡ c
+    pub check-is : b .check ≡ boundCheck S y
     unfolding boundOf
-    check-of d = sym (bound-says (boundCheck S y)) ∙ sym (ap (λ (x : Bound). x .check) e) ∙ d
+    check-is = ap (λ (x : Bound). x .check) e ∙ bound-says (boundCheck S y)
 
     pub bound-counts : boundCheck S y ≡ Passed → b ≡ boundAfter Passed S y
     bound-counts d = e ∙ sym (bound-passed d)
@@ -129,39 +138,27 @@ module _ (S : MsarSpec) (y : List Float) where
       pub windows-are : b .windows ≡ S .«k_regimes» ^ suc (S .order)
       windows-are = ap (λ (x : Bound). x .windows) (bound-counts d)
 
-      -- so that the needs do not wrap
-      pub work-small : b .rows * b .windows ≤ 4096 * 256
-      work-small =
-          let f = fits S y d in
-          let n : b .rows ≤ 4096 = omega (arith, rows-are, f .short) in
-          let m : b .windows ≤ 256 = omega (arith, windows-are, f .shape .few) in
-          mul-le-mul n m
+    -- what a call may need does not wrap: a refusal has counts of zero
+    pub record Small : Type 0 where
+      pub work : b .rows * b .windows ≤ 4096 * 256
+      pub table : b .rows * S .«k_regimes» ≤ 4096 * 16
 
-      pub table-small : b .rows * S .«k_regimes» ≤ 4096 * 16
-      table-small =
-          let f = fits S y d in
-          let n : b .rows ≤ 4096 = omega (arith, rows-are, f .short) in
-          mul-le-mul n (f .shape .high)
+    small-by : (c : Check) → boundCheck S y ≡ c → Small
+    small-by Passed d =
+        let f = fits S y d in
+        let n : b .rows ≤ 4096 = omega (arith, rows-are d, f .short) in
+        let m : b .windows ≤ 256 = omega (arith, windows-are d, f .shape .few) in
+        record { work = mul-le-mul n m; table = mul-le-mul n (f .shape .high) }
+    small-by (Failed r) d =
+        let z : b .rows ≡ 0 = ap (λ (x : Bound). x .rows) (e ∙ bound-refused d) in
+        record { work = rw (z, zero-mul) (omega arith); table = rw (z, zero-mul) (omega arith) }
 
-  -- ---- what a call is admitted with
+    pub small : Small
+    small = small-by (boundCheck S y) refl
 
-  module _ (q : MsarParams) (work : ℕ) (tables : Tables) where
-    abbrev pub restCheck : Check
-    restCheck = memoryCheck work (workNeed S y) before tablesCheck tables (tableNeed S y) before paramsCheck S q
-
-    pub rest-is : {rows windows : ℕ} {a t p f r : Check} → rows ≡ length y - S .order → windows ≡ S .«k_regimes» ^ suc (S .order)
-        → a ≡ memoryCheck work (3 * (rows * windows)) → t ≡ tablesCheck tables (rows * S .«k_regimes») → p ≡ paramsCheck S q
-        → f ≡ (t before p) → r ≡ (a before f) → r ≡ restCheck
-    rest-is n m a t p f r = rw (r, f, a, t, p, n, m)
-
-    pub admit-bound : {r : Refusal} → boundCheck S y ≡ Failed r → boundAfter (Failed r) S y ≡ admitted S y q work tables
-    unfolding admitted admittedCheck
-    admit-bound e = rw e
-
-    pub admit-rest : {r : Refusal} → boundCheck S y ≡ Passed → restCheck ≡ Failed r → boundAfter (Failed r) S y ≡ admitted S y q work tables
-    unfolding admitted admittedCheck
-    admit-rest e d = rw (e, d)
-
-    pub admit-all : boundCheck S y ≡ Passed → restCheck ≡ Passed → boundAfter Passed S y ≡ admitted S y q work tables
-    unfolding admitted admittedCheck
-    admit-all e d = rw (e, d)
+    -- the call's own check is looked at only where the series passed
+    pub admits : (q : MsarParams) (own : Check) {found given r : Check} → (boundCheck S y ≡ Passed → found ≡ own) → given ≡ paramsCheck S q
+        → r ≡ (b .check before (found before given)) → r ≡ admittedCheck S y own q
+    unfolding admittedCheck
+    admits q own {found} {given} f g d =
+        d ∙ ap (λ (x : Check). x before (found before given)) check-is ∙ own-later (boundCheck S y) (λ p. rw (f p, g))

@@ -1,4 +1,5 @@
 -- The checks of what a caller hands in: a series of T readings under a spec, the lengths of the memory that is lent, and the parameters under the spec.
+-- Which memory a call needs stands with the call.
 -- After document 01, "Refusals by number", 1 to 7 and 20, "Order for a model call", and "Bounds set by the port".
 use Prim.Native.Nat.{ℕ, suc, _+_, _-_, _*_, _^_}
 use mathlib.Core.Bool.{not}
@@ -18,8 +19,6 @@ use Rattle.params.specs.declared.MsarParams.{MsarParams}
 use Rattle.params.specs.Parameters.{matchesSpec}
 use Rattle.params.specs.Checks.{parameterCheck}
 use Rattle.binding.specs.declared.Bound.{Bound}
-use Rattle.binding.specs.declared.Tables.{Tables}
-use Rattle.binding.specs.declared.Tables.the-variants.{NoTable, One, Two}
 
 -- ---- the series
 
@@ -27,15 +26,19 @@ use Rattle.binding.specs.declared.Tables.the-variants.{NoTable, One, Two
 unfoldable pub readingCheck : List Float → ℕ → Check
 readingCheck y i = Reading i when not (finite (y ! i))
 
-unfoldable pub seriesCheck : ℕ → List Float → Check
-seriesCheck p y =
-    ShortSeries (p + 1) when length y ≤? p
-    before LongSeries (length y) when 4096 <? length y
-    before each (length y) (readingCheck y)
+unfoldable pub readingsCheck : List Float → Check
+readingsCheck y = each (length y) (readingCheck y)
+
+-- 4 and 5
+unfoldable pub lengthCheck : ℕ → ℕ → Check
+lengthCheck p T = ShortSeries (p + 1) when T ≤? p before LongSeries T when 4096 <? T
 
 -- 1 to 6
 unfoldable pub boundCheck : MsarSpec → List Float → Check
-boundCheck S y = specCheck (S .«k_regimes») (S .order) before seriesCheck (S .order) y
+boundCheck S y =
+    specCheck (S .«k_regimes») (S .order)
+    before lengthCheck (S .order) (length y)
+    before readingsCheck y
 
 -- with it the counts that a call works with: n = T - p rows, m = k^(p + 1) windows, k^p
 abbrev pub boundAfter : Check → MsarSpec → List Float → Bound
@@ -64,25 +67,12 @@ tableNeed S y = (length y - S .order) * S .«k_regimes»
 abbrev pub memoryCheck : ℕ → ℕ → Check
 memoryCheck lent needed = Memory needed when lent <? needed
 
--- the tables, in the order in which they are tried
-abbrev pub tablesCheck : Tables → ℕ → Check
-tablesCheck NoTable needed = Passed
-tablesCheck (One a) needed = memoryCheck a needed
-tablesCheck (Two a b) needed = memoryCheck a needed before memoryCheck b needed
-
 -- ---- the parameters on themselves, then against the spec
 
 unfoldable pub paramsCheck : MsarSpec → MsarParams → Check
 paramsCheck S q = parameterCheck q before Shape when not (matchesSpec S q)
 
--- ---- all of them, for a call that is lent so much work memory and such tables
+-- ---- what a caller hands in: the series under its spec, then what the call itself has to check, then the parameters
 
-unfoldable pub admittedCheck : MsarSpec → List Float → MsarParams → ℕ → Tables → Check
-admittedCheck S y q work tables =
-    boundCheck S y
-    before memoryCheck work (workNeed S y)
-    before tablesCheck tables (tableNeed S y)
-    before paramsCheck S q
-
-unfoldable pub admitted : MsarSpec → List Float → MsarParams → ℕ → Tables → Bound
-admitted S y q work tables = boundAfter (admittedCheck S y q work tables) S y
+unfoldable pub admittedCheck : MsarSpec → List Float → Check → MsarParams → Check
+admittedCheck S y own q = boundCheck S y before own before paramsCheck S q

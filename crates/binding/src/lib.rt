@@ -1,16 +1,17 @@
-// What a caller hands in, checked in document 01's order: spec and series, memory, parameters.
+// What a caller hands in, checked: the series under its spec, memory, the parameters under the spec. A call puts its own
+// checks between the first and the last.
 ghost use mathlib.Core.Path.{_≡_};
 ghost use mathlib.Core.Bool.{not};
 ghost use mathlib.Core.List.{List};
 ghost use Prim.Native.Nat.{_≤_};
 ghost use lib.Ieee.{Float};
 ghost use lib.ListN.{length};
-ghost use Rattle.refusal.specs.Checks.{_when_, each};
+ghost use Rattle.refusal.specs.Checks.{_before_, _when_};
 ghost use Rattle.refusal.specs.declared.Check.the-variants.{Failed};
 ghost use Rattle.refusal.specs.declared.Refusal.the-variants.{Shape};
 ghost use Rattle.spec.specs.declared.MsarSpec.{MsarSpec};
 ghost use Rattle.params.specs.Parameters.{matchesSpec};
-ghost use Rattle.binding.specs.Binding.{readingCheck, seriesCheck, boundAfter, boundOf, memoryCheck, tablesCheck, paramsCheck, admitted};
+ghost use Rattle.binding.specs.Binding.{readingsCheck, lengthCheck, boundAfter, boundOf, memoryCheck, paramsCheck};
 use params::MsarParams;
 use refusal::Check;
 use refusal::Refusal;
@@ -25,16 +26,9 @@ pub struct Bound {
     pub power: usize,
 }
 
-// How long the tables are that a call is lent.
-pub enum Tables {
-    NoTable,
-    One(usize),
-    Two(usize, usize),
-}
-
 // 6 at the first reading that is not finite.
 fn readings(y: &[f64]) -> Check
-    ensures { λ r. ⌜ r ≡ each (length (now (y .entry))) (readingCheck (now (y .entry))) ⌝ }
+    ensures { λ r. ⌜ r ≡ readingsCheck (now (y .entry)) ⌝ }
 {
     let n = y.len();
     for i in 0..n {
@@ -46,19 +40,29 @@ fn readings(y: &[f64]) -> Check
     Check::Passed
 }
 
-// 4 to 6.
-fn series(order: usize, y: &[f64]) -> Check
+// 4 and 5.
+fn length_check(order: usize, t: usize) -> Check
     requires { ⌜ order ≤ 7 ⌝ }
-    ensures { λ r. ⌜ r ≡ seriesCheck order (now (y .entry)) ⌝ }
+    ensures { λ r. ⌜ r ≡ lengthCheck order t ⌝ }
 {
-    let n = y.len();
-    if n <= order {
+    if t <= order {
         return Check::Failed(Refusal::ShortSeries(order + 1));
     }
-    if n > 4096 {
-        return Check::Failed(Refusal::LongSeries(n));
+    if t > 4096 {
+        return Check::Failed(Refusal::LongSeries(t));
     }
-    readings(y)
+    Check::Passed
+}
+
+// 4 to 6. A series that is too long is not read.
+fn series(order: usize, y: &[f64]) -> Check
+    requires { ⌜ order ≤ 7 ⌝ }
+    ensures { λ r. ⌜ r ≡ (lengthCheck order (length (now (y .entry))) before readingsCheck (now (y .entry))) ⌝ }
+{
+    match length_check(order, y.len()) {
+        Check::Failed(r) => Check::Failed(r),
+        Check::Passed => readings(y),
+    }
 }
 
 fn refused(r: Refusal) -> Bound
@@ -92,7 +96,7 @@ pub fn bind(s: MsarSpec, y: &[f64]) -> Bound
 }
 
 // 7.
-fn memory(lent: usize, needed: usize) -> Check
+pub fn memory(lent: usize, needed: usize) -> Check
     ensures { λ r. ⌜ r ≡ memoryCheck lent needed ⌝ }
 {
     if lent < needed {
@@ -102,7 +106,7 @@ fn memory(lent: usize, needed: usize) -> Check
 }
 
 // The parameter checks, then 20.
-fn parameters(s: MsarSpec, q: MsarParams) -> Check
+pub fn parameters(s: MsarSpec, q: MsarParams) -> Check
     ensures { λ r. ⌜ r ≡ paramsCheck s q ⌝ }
 {
     let own = q.check();
@@ -118,33 +122,4 @@ fn shape(s: MsarSpec, q: MsarParams) -> Check
         return Check::Passed;
     }
     Check::Failed(Refusal::Shape)
-}
-
-// 7, for tables that need so much each.
-fn tables_memory(tables: Tables, needed: usize) -> Check
-    ensures { λ r. ⌜ r ≡ tablesCheck tables needed ⌝ }
-{
-    match tables {
-        Tables::NoTable => Check::Passed,
-        Tables::One(a) => memory(a, needed),
-        Tables::Two(a, b) => refusal::first_of(memory(a, needed), memory(b, needed)),
-    }
-}
-
-// Everything that a caller hands in: 1 to 7, the parameter checks, 20; and the counts.
-pub fn admit(s: MsarSpec, y: &[f64], q: MsarParams, work: usize, tables: Tables) -> Bound
-    ensures { λ r. ⌜ r ≡ admitted s (now (y .entry)) q work tables ⌝ }
-{
-    let b = bind(s, y);
-    let check = b.check;
-    if let Check::Failed(r) = check {
-        return refused(r);
-    }
-    let at_work = memory(work, 3 * (b.rows * b.windows));
-    let at_tables = tables_memory(tables, b.rows * s.k_regimes);
-    let at_parameters = parameters(s, q);
-    match refusal::first_of(at_work, refusal::first_of(at_tables, at_parameters)) {
-        Check::Failed(r) => refused(r),
-        Check::Passed => b,
-    }
 }

@@ -6,6 +6,7 @@ use native.Mathlib.Omega.{arith}
 use borrow.Author.Tests.{ltb-false}
 use lib.ListN.{length}
 use lib.Ieee.{Float}
+use Rattle.refusal.specs.Checks.{_before_}
 use Rattle.refusal.specs.declared.Check.{Check}
 use Rattle.refusal.specs.declared.Check.the-variants.{Passed, Failed}
 use Rattle.refusal.proofs.Checks.{both, untrue}
@@ -14,57 +15,78 @@ use Rattle.window.specs.Shape.{Shape}
 use Rattle.params.specs.declared.MsarParams.{MsarParams}
 use Rattle.params.specs.Parameters.{k, p}
 use Rattle.rows.specs.Rows.{windowsOf}
-use Rattle.binding.specs.Binding.{boundCheck, boundAfter, workNeed, tableNeed, memoryCheck, tablesCheck, paramsCheck, admittedCheck, admitted}
+use Rattle.binding.specs.Binding.{boundCheck, boundOf, workNeed, tableNeed, memoryCheck, paramsCheck, admittedCheck}
 use Rattle.binding.specs.declared.Bound.{Bound}
-use Rattle.binding.specs.declared.Tables.{Tables}
-use Rattle.binding.proofs.Passed.{fits, same-shape}
-
-pub record Admitted (S : MsarSpec) (y : List Float) (q : MsarParams) (lent : ℕ) (tables : Tables) (b : Bound) : Type 0 where
-  pub shape : Shape (k q) (p q)
-  pub windows-are : b .windows ≡ windowsOf q
-  pub power-is : b .power ≡ k q ^ p q
-  pub rows-are : p q + b .rows ≡ length y
-  pub some : 0 < b .rows
-  pub short : length y ≤ 4096
-  pub need-is : 3 * (b .rows * b .windows) ≡ workNeed S y
-  pub work-fits : 3 * (b .rows * b .windows) ≤ lent
-  pub tables-fit : tablesCheck tables (b .rows * k q) ≡ Passed
-  pub params-pass : paramsCheck S q ≡ Passed
+use Rattle.binding.proofs.Passed.{fits, same-shape, bound-counts, rows-are, windows-are, admits}
 
 -- memory that is lent and long enough
 pub long-enough : (lent needed : ℕ) → memoryCheck lent needed ≡ Passed → needed ≤ lent
 long-enough lent needed e = ltb-false _ _ (untrue _ _ e)
 
-module _ (S : MsarSpec) (y : List Float) (q : MsarParams) (lent : ℕ) (tables : Tables) {b : Bound} (e : b ≡ admitted S y q lent tables) where
-  says : (c : Check) → boundAfter c S y .check ≡ c
-  says Passed = refl
-  says (Failed r) = refl
+before-assoc : (a b c : Check) → ((a before b) before c) ≡ (a before b before c)
+before-assoc Passed b c = refl
+before-assoc (Failed r) b c = refl
 
-  pub admits : {c : Check} → b .check ≡ c → admittedCheck S y q lent tables ≡ c
-  unfolding admitted
-  admits d = sym (says (admittedCheck S y q lent tables)) ∙ sym (ap (λ (x : Bound). x .check) e) ∙ d
+module _ (S : MsarSpec) (y : List Float) {b : Bound} (e : b ≡ boundOf S y) where
+  -- ---- what the call finds for its memory is what the definition asks, where the series passed
 
-  pub is-admitted : b .check ≡ Passed → Admitted S y q lent tables b
-  unfolding admitted admittedCheck
-  is-admitted d =
-      let c₁ = both (boundCheck S y) (admits d) in
-      let c₂ = both (memoryCheck lent (workNeed S y)) (c₁ .1) in
-      let c₃ = both (tablesCheck tables (tableNeed S y)) (c₂ .1) in
-      let s = same-shape S q (c₃ .1) in
-      let f = fits S y (c₁ .0) in
-      let all : b ≡ boundAfter Passed S y = e ∙ ap (λ (c : Check). boundAfter c S y) (admits d) in
-      let n : b .rows ≡ length y - S .order = ap (λ (x : Bound). x .rows) all in
-      let m : b .windows ≡ S .«k_regimes» ^ suc (S .order) = ap (λ (x : Bound). x .windows) all in
-      let need : 3 * (b .rows * b .windows) ≡ workNeed S y = rw (n, m) in
-      record {
-        shape = subst (λ (x : ℕ). Shape (k q) x) (sym (s .1)) (subst (λ (x : ℕ). Shape x (S .order)) (sym (s .0)) (f .shape));
-        windows-are = m ∙ ap (λ (x : ℕ). x ^ suc (S .order)) (sym (s .0)) ∙ ap (λ (x : ℕ). k q ^ suc x) (sym (s .1));
-        power-is = ap (λ (x : Bound). x .power) all ∙ ap (λ (x : ℕ). x ^ S .order) (sym (s .0)) ∙ ap (λ (x : ℕ). k q ^ x) (sym (s .1));
-        rows-are = omega (arith, n, s .1, f .longer);
-        some = omega (arith, n, f .longer);
-        short = f .short;
-        need-is = need;
-        work-fits = subst (λ (x : ℕ). x ≤ lent) (sym need) (long-enough lent (workNeed S y) (c₂ .0));
-        tables-fit = subst (λ (x : ℕ). tablesCheck tables x ≡ Passed) (ap (λ (x : ℕ). x * S .«k_regimes») (sym n) ∙ ap (λ (x : ℕ). b .rows * x) (sym (s .0))) (c₃ .0);
-        params-pass = c₃ .1;
-      }
+  module _ (d : boundCheck S y ≡ Passed) where
+    pub work-is : 3 * (b .rows * b .windows) ≡ workNeed S y
+    work-is = rw (rows-are S y e d, windows-are S y e d)
+
+    pub table-is : b .rows * S .«k_regimes» ≡ tableNeed S y
+    table-is = rw (rows-are S y e d)
+
+  module _ (work : ℕ) where
+    pub work-checked : {c : Check} → c ≡ memoryCheck work (3 * (b .rows * b .windows)) → boundCheck S y ≡ Passed → c ≡ memoryCheck work (workNeed S y)
+    work-checked h d = h ∙ ap (memoryCheck work) (work-is d)
+
+    module _ (table : ℕ) where
+      pub one-checked : {c : Check} → c ≡ (memoryCheck work (3 * (b .rows * b .windows)) before memoryCheck table (b .rows * S .«k_regimes»))
+          → boundCheck S y ≡ Passed → c ≡ (memoryCheck work (workNeed S y) before memoryCheck table (tableNeed S y))
+      one-checked h d = h ∙ ap (λ (x : ℕ). memoryCheck work x before memoryCheck table (b .rows * S .«k_regimes»)) (work-is d) ∙ ap (λ (x : ℕ). memoryCheck work (workNeed S y) before memoryCheck table x) (table-is d)
+
+      pub two-checked : (second : ℕ) {c one two : Check} → one ≡ (memoryCheck work (3 * (b .rows * b .windows)) before memoryCheck table (b .rows * S .«k_regimes»))
+          → two ≡ memoryCheck second (b .rows * S .«k_regimes») → c ≡ (one before two)
+          → boundCheck S y ≡ Passed → c ≡ (memoryCheck work (workNeed S y) before memoryCheck table (tableNeed S y) before memoryCheck second (tableNeed S y))
+      two-checked second {c} {one} {two} h g f d =
+          f
+          ∙ ap (λ (x : Check). x before two) (one-checked h d)
+          ∙ ap (λ (x : Check). (memoryCheck work (workNeed S y) before memoryCheck table (tableNeed S y)) before x) (g ∙ ap (memoryCheck second) (table-is d))
+          ∙ before-assoc (memoryCheck work (workNeed S y)) _ _
+
+  -- ---- an admitted call
+
+  module _ (q : MsarParams) (own : Check) where
+    pub record Admitted : Type 0 where
+      pub shape : Shape (k q) (p q)
+      pub windows-of : b .windows ≡ windowsOf q
+      pub power-is : b .power ≡ k q ^ p q
+      pub rows-of : p q + b .rows ≡ length y
+      pub some : 0 < b .rows
+      pub short : length y ≤ 4096
+      pub need-is : 3 * (b .rows * b .windows) ≡ workNeed S y
+      pub table-need : b .rows * k q ≡ tableNeed S y
+      pub own-passed : own ≡ Passed
+      pub params-pass : paramsCheck S q ≡ Passed
+
+    pub is-admitted : admittedCheck S y own q ≡ Passed → Admitted
+    unfolding admittedCheck
+    is-admitted d =
+        let c₁ = both (boundCheck S y) d in
+        let c₂ = both own (c₁ .1) in
+        let s = same-shape S q (c₂ .1) in
+        let f = fits S y (c₁ .0) in
+        let n = rows-are S y e (c₁ .0) in
+        record {
+          shape = subst (λ (x : ℕ). Shape (k q) x) (sym (s .1)) (subst (λ (x : ℕ). Shape x (S .order)) (sym (s .0)) (f .shape));
+          windows-of = windows-are S y e (c₁ .0) ∙ ap (λ (x : ℕ). x ^ suc (S .order)) (sym (s .0)) ∙ ap (λ (x : ℕ). k q ^ suc x) (sym (s .1));
+          power-is = ap (λ (x : Bound). x .power) (bound-counts S y e (c₁ .0)) ∙ ap (λ (x : ℕ). x ^ S .order) (sym (s .0)) ∙ ap (λ (x : ℕ). k q ^ x) (sym (s .1));
+          rows-of = omega (arith, n, s .1, f .longer);
+          some = omega (arith, n, f .longer);
+          short = f .short;
+          need-is = work-is (c₁ .0);
+          table-need = ap (λ (x : ℕ). b .rows * x) (s .0) ∙ table-is (c₁ .0);
+          own-passed = c₂ .0;
+          params-pass = c₂ .1;
+        }

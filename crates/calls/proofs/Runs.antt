@@ -1,8 +1,9 @@
--- What a run leaves: work memory cleared, and the tables that the definition has. Assumes nothing.
+-- A run from its start shares; what it leaves: work memory cleared, and the tables that the definition has. Assumes nothing.
 use Prim.Native.Nat.{ℕ, suc, _+_, _-_, _*_, _^_, _<_, _≤_}
 use mathlib.Core.Path.{_≡_, refl, sym, ap, subst, _∙_}
+use mathlib.Core.Bool.{true≢false}
 use mathlib.Core.List.{List}
-use native.Mathlib.Nat.{mul-assoc, pow-suc}
+use native.Mathlib.Nat.{pow-suc, mul-le-mul}
 use native.Mathlib.Omega.{arith}
 use lib.ListN.{length, drop}
 use lib.Seq.{drop-drop}
@@ -16,28 +17,49 @@ use Rattle.refusal.specs.declared.Refusal.{Refusal}
 use Rattle.params.specs.declared.MsarParams.{MsarParams}
 use Rattle.params.specs.Parameters.{k, p}
 use Rattle.rows.specs.Rows.{resultAt, Same, windowsOf}
-use Rattle.rows.specs.Memory.{filteredFrom}
+use Rattle.rows.specs.Memory.{filteredFrom, predictedFrom}
 use Rattle.rows.specs.Steps.{labelSumAt}
 use Rattle.rows.proofs.Rows.{tabulated}
-use Rattle.filter.specs.Filter.{predictedRow, filteredRow, rowCount, startShares, runCheck, loglikOf, answerAfter, answerOf}
+use Rattle.stationary.specs.Stationary.{startShares}
+use Rattle.stationary.specs.declared.Shares.{Shares}
+use Rattle.filter.specs.Filter.{predictedRow, filteredRow, rowCount, answerAfter, filterAnswer}
 use Rattle.filter.specs.Steps.{Held}
 use Rattle.filter.specs.declared.Answer.{Answer}
-use Rattle.smoother.specs.Smoother.{smoothedRow}
 use Rattle.smoother.specs.InMemory.{SmoothedRows}
-use Rattle.calls.specs.Calls.{cleared, tableOf, filteredTable, smoothedTable}
-
--- rows are two thirds of the memory needed
-pub rows-fit : (n m : ℕ) → 2 * n * m ≤ 3 * (n * m)
-rows-fit n m = let e = mul-assoc 2 n m in omega (arith, e)
+use Rattle.calls.specs.Calls.{runCheck, runLoglik, runAnswer, cleared, tableOf, filteredTable, smoothedFrom, smoothedTable}
 
 -- what lies past the rows is as it was, so that the cleared memory is the one lent
-pub all-cleared : (n m : ℕ) (found ran : List Float) {w : List Float} → drop (2 * n * m) ran ≡ drop (2 * n * m) found
+pub drop-more : (u v : ℕ) (a b : List Float) → u ≤ v → drop u a ≡ drop u b → drop v a ≡ drop v b
+drop-more u v a b h d =
+    let e : u + (v - u) ≡ v = omega arith in
+    let past : (l : List Float) → drop (v - u) (drop u l) ≡ drop v l = λ l. drop-drop (v - u) u l ∙ ap (λ (x : ℕ). drop x l) e in
+    sym (past a) ∙ ap (drop (v - u)) d ∙ past b
+
+pub all-cleared : (u need : ℕ) → u ≤ need → (found ran : List Float) {w : List Float} → drop u ran ≡ drop u found
+    → w ≡ cleared need ran → w ≡ cleared need found
+all-cleared u need h found ran d e = e ∙ fillAt-over (λ _. zero⁺) need ran found (drop-more u need ran found h d)
+
+-- n rows of m windows, filtered and predicted, are two thirds of the memory needed
+pub run-cleared : (n m : ℕ) (found ran : List Float) {w : List Float} → drop (2 * (n * m)) ran ≡ drop (2 * (n * m)) found
     → w ≡ cleared (3 * (n * m)) ran → w ≡ cleared (3 * (n * m)) found
-all-cleared n m found ran d e =
-    let u : 2 * n * m + (3 * (n * m) - 2 * n * m) ≡ 3 * (n * m) = let f = rows-fit n m in omega (arith, f) in
-    let past : (l : List Float) → drop (3 * (n * m) - 2 * n * m) (drop (2 * n * m) l) ≡ drop (3 * (n * m)) l =
-    λ l. drop-drop (3 * (n * m) - 2 * n * m) (2 * n * m) l ∙ ap (λ (x : ℕ). drop x l) u in
-    e ∙ fillAt-over (λ _. zero⁺) (3 * (n * m)) ran found (sym (past ran) ∙ ap (drop (3 * (n * m) - 2 * n * m)) d ∙ past found)
+run-cleared n m found ran d e = all-cleared (2 * (n * m)) (3 * (n * m)) (omega arith) found ran d e
+
+-- ---- the start shares, then the filter from them
+
+module _ (q : MsarParams) (y : List Float) {s : Shares} (shares : s ≡ startShares q) where
+  shares-check : {d : Check} → s .check ≡ d → startShares q .check ≡ d
+  shares-check c = sym (ap (λ (x : Shares). x .check) shares) ∙ c
+
+  pub run-refused : {a : Answer} {r : Refusal} (loglik : Float) → s .check ≡ Failed r → a ≡ answerAfter (Failed r) loglik → a ≡ runAnswer q y
+  unfolding runAnswer runCheck
+  run-refused loglik c e = rw (shares-check c) e
+
+  pub run-passed : {a : Answer} → s .check ≡ Passed → a ≡ filterAnswer q y (s .values) → a ≡ runAnswer q y
+  unfolding runAnswer runCheck runLoglik filterAnswer
+  run-passed c e = rw (shares-check c) (e ∙ ap (λ (x : Shares). filterAnswer q y (x .values)) shares)
+
+  pub held-from-start : {n m : ℕ} {work : List Float} → Held q y (s .values) n m n work → Held q y (startShares q .values) n m n work
+  held-from-start {n} {m} {work} h = subst (λ (x : Shares). Held q y (x .values) n m n work) shares h
 
 -- ---- whether the run was refused
 
@@ -45,10 +67,13 @@ answer-says : (c : Check) (loglik : Float) → answerAfter c loglik .check ≡ c
 answer-says Passed loglik = refl
 answer-says (Failed r) loglik = refl
 
-module _ (q : MsarParams) (y : List Float) {a : Answer} (answer : a ≡ answerOf q y) {c : Check} where
+pub answer-refused : {a : Answer} {r : Refusal} (loglik : Float) → a ≡ answerAfter (Failed r) loglik → a .check ≡ Passed → ⊥
+answer-refused {a} {r} loglik e d = let f : Failed r ≡ Passed = sym (ap (λ (x : Answer). x .check) e) ∙ d in true≢false cc
+
+module _ (q : MsarParams) (y : List Float) {a : Answer} (answer : a ≡ runAnswer q y) {c : Check} where
   pub run-says : a .check ≡ c → runCheck q y ≡ c
-  unfolding answerOf
-  run-says d = sym (answer-says (runCheck q y) (loglikOf q y)) ∙ sym (ap (λ (x : Answer). x .check) answer) ∙ d
+  unfolding runAnswer
+  run-says d = sym (answer-says (runCheck q y) (runLoglik q y)) ∙ sym (ap (λ (x : Answer). x .check) answer) ∙ d
 
 module _ (q : MsarParams) (y : List Float) {r : Refusal} (refused : runCheck q y ≡ Failed r) (found : List Float) where
   pub filtered-as-found : found ≡ filteredTable q y found
@@ -59,43 +84,57 @@ module _ (q : MsarParams) (y : List Float) {r : Refusal} (refused : runCheck q y
   unfolding smoothedTable
   smoothed-as-found = rw refused
 
--- ---- the tables of a run that was not refused
+-- ---- the tables of n rows that stand in memory
 
-module _ (q : MsarParams) (y : List Float) (m power n : ℕ) (pos : 0 < k q) (windows : m ≡ windowsOf q) (power-is : power ≡ k q ^ p q)
-    (rows-are : p q + n ≡ length y) (passed : runCheck q y ≡ Passed) where
-  counted : n ≡ rowCount q y
-  counted = omega arith
-
-  -- the results of rows that stand in memory
-  table-is : (work found : List Float) (rows : ℕ → List Float) {table : List Float}
+module _ (q : MsarParams) (m power n : ℕ) (pos : 0 < k q) (windows : m ≡ windowsOf q) (power-is : power ≡ k q ^ p q) where
+  rows-tabled : (work found : List Float) (rows : ℕ → List Float) {table : List Float}
       → ((i : ℕ) → i < n → Same m (drop (filteredFrom m i) work) (rows i))
-      → table ≡ fillAt 0 (labelSumAt (k q) power m work) (n * k q) found → table ≡ tableOf q y rows found
-  table-is work found rows stand e =
+      → table ≡ fillAt 0 (labelSumAt (k q) power m work) (n * k q) found → table ≡ fillAt 0 (resultAt (k q) (p q) rows) (n * k q) found
+  rows-tabled work found rows stand e =
       e
       ∙ ap (λ (x : ℕ). fillAt 0 (labelSumAt (k q) x m work) (n * k q) found) power-is
       ∙ fillAt-ext 0 _ (n * k q) found (resultAt (k q) (p q) rows) (tabulated (k q) (p q) pos m work rows n windows stand)
-      ∙ ap (λ (x : ℕ). fillAt 0 (resultAt (k q) (p q) rows) (x * k q) found) counted
 
-  module _ (work : List Float) (held : Held q y (startShares q) m n work) where
-    pub filtered-is : (found : List Float) {table : List Float} → table ≡ fillAt 0 (labelSumAt (k q) power m work) (n * k q) found
-        → table ≡ filteredTable q y found
-    unfolding filteredTable
-    filtered-is found e = rw passed (table-is work found (filteredRow q y (startShares q)) (held .filtered) e)
-
-    pub smoothed-is : (after found : List Float) {table : List Float} → SmoothedRows q n work after
-        → table ≡ fillAt 0 (labelSumAt (k q) power m after) (n * k q) found → table ≡ smoothedTable q y found
-    unfolding smoothedTable
-    smoothed-is after found s e =
-        rw passed
-        (table-is after found (λ i. smoothedRow q (predictedRow q y (startShares q)) (filteredRow q y (startShares q)) (n - 1 - i) i)
-        (λ i h. subst (λ (x : ℕ). Same x (drop (filteredFrom x i) after) (smoothedRow q (predictedRow q y (startShares q)) (filteredRow q y (startShares q)) (n - 1 - i) i)) (sym windows)
-        (s .rows (predictedRow q y (startShares q)) (filteredRow q y (startShares q))
-        (subst (λ (x : ℕ). (j : ℕ) → j < n → Same x (drop (2 * j * x) work) (predictedRow q y (startShares q) j)) windows (held .predicted))
-        (subst (λ (x : ℕ). (j : ℕ) → j < n → Same x (drop (filteredFrom x j) work) (filteredRow q y (startShares q) j)) windows (held .filtered))
+  module _ (y shares work : List Float) (held : Held q y shares n m n work) where
+    pub smoothed-tabled : (after found : List Float) {table : List Float} → SmoothedRows q n work after
+        → table ≡ fillAt 0 (labelSumAt (k q) power m after) (n * k q) found → table ≡ fillAt 0 (resultAt (k q) (p q) (smoothedFrom q y shares n)) (n * k q) found
+    smoothed-tabled after found s e =
+        rows-tabled after found (smoothedFrom q y shares n)
+        (λ i h. subst (λ (x : ℕ). Same x (drop (filteredFrom x i) after) (smoothedFrom q y shares n i)) (sym windows)
+        (s .rows (predictedRow q y shares) (filteredRow q y shares)
+        (subst (λ (x : ℕ). (j : ℕ) → j < n → Same x (drop (predictedFrom n x j) work) (predictedRow q y shares j)) windows (held .predicted))
+        (subst (λ (x : ℕ). (j : ℕ) → j < n → Same x (drop (filteredFrom x j) work) (filteredRow q y shares j)) windows (held .filtered))
         i h))
         e
-        ∙ ap (λ (x : ℕ). tableOf q y (λ i. smoothedRow q (predictedRow q y (startShares q)) (filteredRow q y (startShares q)) (x - 1 - i) i) found) counted)
+
+    -- of a run that was not refused
+    module _ (rows-are : p q + n ≡ length y) (passed : runCheck q y ≡ Passed) (start : shares ≡ startShares q .values) where
+      counted : n ≡ rowCount q y
+      counted = omega arith
+
+      pub filtered-is : (found : List Float) {table : List Float} → table ≡ fillAt 0 (labelSumAt (k q) power m work) (n * k q) found → table ≡ filteredTable q y found
+      unfolding filteredTable
+      filtered-is found e =
+          rw passed
+          (rows-tabled work found (filteredRow q y shares) (held .filtered) e
+          ∙ ap (λ (x : ℕ). fillAt 0 (resultAt (k q) (p q) (filteredRow q y shares)) (x * k q) found) counted
+          ∙ ap (λ (x : List Float). tableOf q y (filteredRow q y x) found) start)
+
+      pub smoothed-is : (found : List Float) {table : List Float} → table ≡ fillAt 0 (resultAt (k q) (p q) (smoothedFrom q y shares n)) (n * k q) found → table ≡ smoothedTable q y found
+      unfolding smoothedTable
+      smoothed-is found e =
+          rw passed
+          (e
+          ∙ ap (λ (x : ℕ). fillAt 0 (resultAt (k q) (p q) (smoothedFrom q y shares x)) (x * k q) found) counted
+          ∙ ap (λ (x : List Float). tableOf q y (smoothedFrom q y x (rowCount q y)) found) start)
 
 -- k^p windows for each label now
 pub windows-split : (k p : ℕ) {m power : ℕ} → m ≡ k ^ suc p → power ≡ k ^ p → power * k ≡ m
 windows-split k p e d = rw (e, d) (sym (pow-suc k p))
+
+-- work memory is smaller than what a usize counts
+pub work-small : (q : MsarParams) (T m n : ℕ) → k q ^ suc (p q) ≤ 256 → m ≡ windowsOf q → p q + n ≡ T → T ≤ 4096 → 3 * (n * m) ≤ 3 * (4096 * 256)
+work-small q T m n few w r s =
+    let a : n ≤ 4096 = omega arith in
+    let b : m ≤ 256 = rw w few in
+    omega (arith, mul-le-mul a b)

@@ -6,19 +6,32 @@ use lib.ListN.{length}
 use lib.Ieee.{Float}
 use Rattle.number.specs.Number.{zero⁺}
 use Rattle.number.specs.Table.{fillAt}
+use Rattle.refusal.specs.Checks.{_before_}
 use Rattle.refusal.specs.declared.Check.{Check}
 use Rattle.refusal.specs.declared.Check.the-variants.{Passed, Failed}
 use Rattle.spec.specs.declared.MsarSpec.{MsarSpec}
 use Rattle.params.specs.declared.MsarParams.{MsarParams}
 use Rattle.params.specs.Parameters.{k, p}
-use Rattle.binding.specs.Binding.{admittedCheck, workNeed}
-use Rattle.binding.specs.declared.Tables.the-variants.{NoTable, One, Two}
+use Rattle.stationary.specs.Stationary.{startShares}
+use Rattle.binding.specs.Binding.{admittedCheck, memoryCheck, workNeed, tableNeed}
 use Rattle.rows.specs.Rows.{resultAt}
-use Rattle.filter.specs.Filter.{predictedRow, filteredRow, rowCount, startShares, runCheck, answerAfter, answerOf}
+use Rattle.filter.specs.Filter.{predictedRow, filteredRow, rowCount, filterCheck, loglikOf, answerAfter}
 use Rattle.filter.specs.declared.Answer.{Answer}
 use Rattle.smoother.specs.Smoother.{smoothedRow}
 
--- ---- what a run leaves in memory
+-- ---- a run: the start shares, then the filter from them
+
+-- what a run may refuse with: 21 or 22 of the shares, then 23
+unfoldable pub runCheck : MsarParams → List Float → Check
+runCheck q y = let start = startShares q in start .check before filterCheck q y (start .values)
+
+unfoldable pub runLoglik : MsarParams → List Float → Float
+runLoglik q y = loglikOf q y (startShares q .values)
+
+unfoldable pub runAnswer : MsarParams → List Float → Answer
+runAnswer q y = answerAfter (runCheck q y) (runLoglik q y)
+
+-- ---- what it leaves in memory
 
 -- after a run, refused or not, the needed work memory holds positive zero
 abbrev pub cleared : ℕ → List Float → List Float
@@ -34,13 +47,14 @@ written Passed table found = table
 written (Failed r) table found = found
 
 unfoldable pub filteredTable : MsarParams → List Float → List Float → List Float
-filteredTable q y found = written (runCheck q y) (tableOf q y (filteredRow q y (startShares q)) found) found
+filteredTable q y found = written (runCheck q y) (tableOf q y (filteredRow q y (startShares q .values)) found) found
 
 -- row i of n is followed by n - 1 - i rows
+abbrev pub smoothedFrom : MsarParams → List Float → List Float → ℕ → ℕ → List Float
+smoothedFrom q y shares n i = smoothedRow q (predictedRow q y shares) (filteredRow q y shares) (n - 1 - i) i
+
 unfoldable pub smoothedTable : MsarParams → List Float → List Float → List Float
-smoothedTable q y found =
-    let rows = smoothedRow q (predictedRow q y (startShares q)) (filteredRow q y (startShares q)) in
-    written (runCheck q y) (tableOf q y (λ i. rows (rowCount q y - 1 - i) i) found) found
+smoothedTable q y found = written (runCheck q y) (tableOf q y (smoothedFrom q y (startShares q .values) (rowCount q y)) found) found
 
 -- ---- the outcome of a call. A call that takes no such table is lent the empty one
 
@@ -58,15 +72,26 @@ called Passed work filtered smoothed run = run
 module _ (S : MsarSpec) (y : List Float) (q : MsarParams) (work : List Float) where
   unfoldable pub loglikeCall : Outcome
   loglikeCall =
-      called (admittedCheck S y q (length work) NoTable) work [] []
-      (record { answer = answerOf q y; work = cleared (workNeed S y) work; filtered = []; smoothed = [] })
+      called (admittedCheck S y (memoryCheck (length work) (workNeed S y)) q) work [] []
+      (record { answer = runAnswer q y; work = cleared (workNeed S y) work; filtered = []; smoothed = [] })
 
   unfoldable pub filterCall : List Float → Outcome
   filterCall filtered =
-      called (admittedCheck S y q (length work) (One (length filtered))) work filtered []
-      (record { answer = answerOf q y; work = cleared (workNeed S y) work; filtered = filteredTable q y filtered; smoothed = [] })
+      called
+      (admittedCheck S y
+      (memoryCheck (length work) (workNeed S y)
+      before memoryCheck (length filtered) (tableNeed S y))
+      q)
+      work filtered []
+      (record { answer = runAnswer q y; work = cleared (workNeed S y) work; filtered = filteredTable q y filtered; smoothed = [] })
 
   unfoldable pub smoothCall : List Float → List Float → Outcome
   smoothCall filtered smoothed =
-      called (admittedCheck S y q (length work) (Two (length filtered) (length smoothed))) work filtered smoothed
-      (record { answer = answerOf q y; work = cleared (workNeed S y) work; filtered = filteredTable q y filtered; smoothed = smoothedTable q y smoothed })
+      called
+      (admittedCheck S y
+      (memoryCheck (length work) (workNeed S y)
+      before memoryCheck (length filtered) (tableNeed S y)
+      before memoryCheck (length smoothed) (tableNeed S y))
+      q)
+      work filtered smoothed
+      (record { answer = runAnswer q y; work = cleared (workNeed S y) work; filtered = filteredTable q y filtered; smoothed = smoothedTable q y smoothed })

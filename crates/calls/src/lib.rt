@@ -1,20 +1,61 @@
 // The model's calls on a series, in lent memory: log-likelihood, filter, smoother. Each binds afresh.
 ghost use mathlib.Core.Path.{_≡_};
-ghost use mathlib.Core.List.{[]};
+ghost use mathlib.Core.List.{List, []};
 ghost use Prim.Native.Nat.{_+_, _*_, _^_, _<_, _≤_};
-ghost use lib.ListN.{length};
+ghost use lib.ListN.{length, drop};
+ghost use lib.Ieee.{Float};
+ghost use Rattle.number.specs.Table.{fillAt};
 ghost use Rattle.window.specs.Shape.{Shape};
 ghost use Rattle.params.specs.Parameters.{k, p};
-ghost use Rattle.rows.specs.Rows.{windowsOf};
-ghost use Rattle.filter.specs.Filter.{answerOf};
-ghost use Rattle.calls.specs.Calls.{cleared, filteredTable, smoothedTable, Outcome, loglikeCall, filterCall, smoothCall};
-use binding::Tables;
+ghost use Rattle.rows.specs.Rows.{windowsOf, resultAt};
+ghost use Rattle.refusal.specs.Checks.{_before_};
+ghost use Rattle.refusal.specs.declared.Check.the-variants.{Passed};
+ghost use Rattle.stationary.specs.Stationary.{startShares};
+ghost use Rattle.filter.specs.Steps.{Held};
+ghost use Rattle.binding.specs.Binding.{memoryCheck};
+ghost use Rattle.calls.specs.Calls.{runAnswer, smoothedFrom, cleared, filteredTable, smoothedTable, Outcome, loglikeCall, filterCall, smoothCall};
+use binding::Bound;
 use filter::Answer;
 use params::MsarParams;
 use refusal::Check;
+use refusal::first_of;
 use spec::MsarSpec;
 
 // ---- after the checks: n rows of m windows, power = k^order
+
+// The start shares, and the filter from them.
+pub fn run(q: MsarParams, power: usize, m: usize, y: &[f64], n: usize, work: &mut [f64]) -> Answer
+    requires { ⌜ Shape (k q) (p q) ⌝ }
+    requires { ⌜ (m ≡ windowsOf q) × (power ≡ k q ^ p q) × (p q + n ≡ length (now y)) × (length (now y) ≤ 4096) × (2 * (n * m) ≤ length (now work)) ⌝ }
+    ensures answer { λ r. ⌜ r ≡ runAnswer q (now (y .entry)) ⌝ }
+    ensures same { λ _. ⌜ (length (now (work .exit)) ≡ length (now (work .entry))) × (drop (2 * (n * m)) (now (work .exit)) ≡ drop (2 * (n * m)) (now (work .entry))) ⌝ }
+    ensures rows { λ r. ⌜ (r .check ≡ Passed → Held q (now (y .entry)) (startShares q .values) n m n (now (work .exit))) ⌝ }
+{
+    let start = stationary::solved_shares(&q.transition, q.means_count);
+    let check = start.check;
+    if let Check::Failed(r) = check {
+        return filter::refused(r);
+    }
+    filter::run(q, &start.values, power, m, y, n, work)
+}
+
+// The smoothed rows, in the place of the filtered ones, and their table.
+pub fn smooth_rows(
+    q: MsarParams,
+    power: usize,
+    m: usize,
+    n: usize,
+    work: &mut [f64],
+    table: &mut [f64],
+)
+    requires { ⌜ Shape (k q) (p q) ⌝ }
+    requires { ⌜ (m ≡ windowsOf q) × (power ≡ k q ^ p q) × (0 < n) × (2 * (n * m) ≤ length (now work)) × (n * k q ≤ length (now table)) ⌝ }
+    ensures same { λ _. ⌜ (length (now (work .exit)) ≡ length (now (work .entry))) × (drop (n * m) (now (work .exit)) ≡ drop (n * m) (now (work .entry))) ⌝ }
+    ensures table { λ _. ⌜ ((y shares : List Float) → Held q y shares n m n (now (work .entry)) → now (table .exit) ≡ fillAt 0 (resultAt (k q) (p q) (smoothedFrom q y shares n)) (n * k q) (now (table .entry))) ⌝ }
+{
+    smoother::smooth(q, power, n, work);
+    rows::tabulate(work, q.means_count, power, m, n, table);
+}
 
 // Work memory is cleared after every run, refused or not.
 fn run_loglike(
@@ -27,10 +68,10 @@ fn run_loglike(
 ) -> Answer
     requires { ⌜ Shape (k q) (p q) ⌝ }
     requires { ⌜ (m ≡ windowsOf q) × (power ≡ k q ^ p q) × (p q + n ≡ length (now y)) × (length (now y) ≤ 4096) × (3 * (n * m) ≤ length (now work)) ⌝ }
-    ensures answer { λ r. ⌜ r ≡ answerOf q (now (y .entry)) ⌝ }
+    ensures answer { λ r. ⌜ r ≡ runAnswer q (now (y .entry)) ⌝ }
     ensures work { λ _. ⌜ now (work .exit) ≡ cleared (3 * (n * m)) (now (work .entry)) ⌝ }
 {
-    let answer = filter::run(q, power, m, y, n, work);
+    let answer = run(q, power, m, y, n, work);
     rows::clear(work, 3 * (n * m));
     answer
 }
@@ -47,11 +88,11 @@ fn run_filter(
 ) -> Answer
     requires { ⌜ Shape (k q) (p q) ⌝ }
     requires { ⌜ (m ≡ windowsOf q) × (power ≡ k q ^ p q) × (p q + n ≡ length (now y)) × (length (now y) ≤ 4096) × (3 * (n * m) ≤ length (now work)) × (n * k q ≤ length (now filtered)) ⌝ }
-    ensures answer { λ r. ⌜ r ≡ answerOf q (now (y .entry)) ⌝ }
+    ensures answer { λ r. ⌜ r ≡ runAnswer q (now (y .entry)) ⌝ }
     ensures work { λ _. ⌜ now (work .exit) ≡ cleared (3 * (n * m)) (now (work .entry)) ⌝ }
     ensures filtered { λ _. ⌜ now (filtered .exit) ≡ filteredTable q (now (y .entry)) (now (filtered .entry)) ⌝ }
 {
-    let answer = filter::run(q, power, m, y, n, work);
+    let answer = run(q, power, m, y, n, work);
     let check = answer.check;
     match check {
         Check::Passed => {
@@ -79,18 +120,17 @@ fn run_smooth(
 ) -> Answer
     requires { ⌜ Shape (k q) (p q) ⌝ }
     requires { ⌜ (m ≡ windowsOf q) × (power ≡ k q ^ p q) × (p q + n ≡ length (now y)) × (length (now y) ≤ 4096) × (3 * (n * m) ≤ length (now work)) × (n * k q ≤ length (now filtered)) × (n * k q ≤ length (now smoothed)) × (0 < n) ⌝ }
-    ensures answer { λ r. ⌜ r ≡ answerOf q (now (y .entry)) ⌝ }
+    ensures answer { λ r. ⌜ r ≡ runAnswer q (now (y .entry)) ⌝ }
     ensures work { λ _. ⌜ now (work .exit) ≡ cleared (3 * (n * m)) (now (work .entry)) ⌝ }
     ensures filtered { λ _. ⌜ now (filtered .exit) ≡ filteredTable q (now (y .entry)) (now (filtered .entry)) ⌝ }
     ensures smoothed { λ _. ⌜ now (smoothed .exit) ≡ smoothedTable q (now (y .entry)) (now (smoothed .entry)) ⌝ }
 {
-    let answer = filter::run(q, power, m, y, n, work);
+    let answer = run(q, power, m, y, n, work);
     let check = answer.check;
     match check {
         Check::Passed => {
             rows::tabulate(work, q.means_count, power, m, n, filtered);
-            smoother::smooth(q, power, n, work);
-            rows::tabulate(work, q.means_count, power, m, n, smoothed);
+            smooth_rows(q, power, m, n, work, smoothed);
             rows::clear(work, 3 * (n * m));
             answer
         }
@@ -103,16 +143,28 @@ fn run_smooth(
 
 // ---- the calls
 
+// 7, for work memory and one table.
+pub fn memory(b: Bound, k: usize, work: usize, table: usize) -> Check
+    requires { ⌜ (b .rows * b .windows ≤ 4096 * 256) × (b .rows * k ≤ 4096 * 16) ⌝ }
+    ensures { λ r. ⌜ r ≡ (memoryCheck work (3 * (b .rows * b .windows)) before memoryCheck table (b .rows * k)) ⌝ }
+{
+    let at_work = binding::memory(work, 3 * (b.rows * b.windows));
+    let at_table = binding::memory(table, b.rows * k);
+    first_of(at_work, at_table)
+}
+
 // The log-likelihood of a series.
 pub fn loglike(s: MsarSpec, y: &[f64], q: MsarParams, work: &mut [f64]) -> Answer
     ensures { λ r. ⌜ record { answer = r; work = now (work .exit); filtered = []; smoothed = [] } ≡ loglikeCall s (now (y .entry)) q (now (work .entry)) ⌝ }
 {
-    let b = binding::admit(s, y, q, work.len(), Tables::NoTable);
-    let check = b.check;
-    if let Check::Failed(r) = check {
-        return filter::refused(r);
+    let b = binding::bind(s, y);
+    let own = binding::memory(work.len(), 3 * (b.rows * b.windows));
+    let given = binding::parameters(s, q);
+    let bound = b.check;
+    match first_of(bound, first_of(own, given)) {
+        Check::Failed(r) => filter::refused(r),
+        Check::Passed => run_loglike(q, b.power, b.windows, b.rows, y, work),
     }
-    run_loglike(q, b.power, b.windows, b.rows, y, work)
 }
 
 // The log-likelihood, and the probabilities of the labels given the readings so far.
@@ -125,12 +177,14 @@ pub fn filter(
 ) -> Answer
     ensures { λ r. ⌜ record { answer = r; work = now (work .exit); filtered = now (filtered .exit); smoothed = [] } ≡ filterCall s (now (y .entry)) q (now (work .entry)) (now (filtered .entry)) ⌝ }
 {
-    let b = binding::admit(s, y, q, work.len(), Tables::One(filtered.len()));
-    let check = b.check;
-    if let Check::Failed(r) = check {
-        return filter::refused(r);
+    let b = binding::bind(s, y);
+    let own = memory(b, s.k_regimes, work.len(), filtered.len());
+    let given = binding::parameters(s, q);
+    let bound = b.check;
+    match first_of(bound, first_of(own, given)) {
+        Check::Failed(r) => filter::refused(r),
+        Check::Passed => run_filter(q, b.power, b.windows, b.rows, y, work, filtered),
     }
-    run_filter(q, b.power, b.windows, b.rows, y, work, filtered)
 }
 
 // The same, and the probabilities of the labels given all readings.
@@ -144,16 +198,13 @@ pub fn smooth(
 ) -> Answer
     ensures { λ r. ⌜ record { answer = r; work = now (work .exit); filtered = now (filtered .exit); smoothed = now (smoothed .exit) } ≡ smoothCall s (now (y .entry)) q (now (work .entry)) (now (filtered .entry)) (now (smoothed .entry)) ⌝ }
 {
-    let b = binding::admit(
-        s,
-        y,
-        q,
-        work.len(),
-        Tables::Two(filtered.len(), smoothed.len()),
-    );
-    let check = b.check;
-    if let Check::Failed(r) = check {
-        return filter::refused(r);
+    let b = binding::bind(s, y);
+    let own = memory(b, s.k_regimes, work.len(), filtered.len());
+    let third = binding::memory(smoothed.len(), b.rows * s.k_regimes);
+    let given = binding::parameters(s, q);
+    let bound = b.check;
+    match first_of(bound, first_of(first_of(own, third), given)) {
+        Check::Failed(r) => filter::refused(r),
+        Check::Passed => run_smooth(q, b.power, b.windows, b.rows, y, work, filtered, smoothed),
     }
-    run_smooth(q, b.power, b.windows, b.rows, y, work, filtered, smoothed)
 }

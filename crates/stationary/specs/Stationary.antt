@@ -75,10 +75,14 @@ answered S n = after (S .outcome) (S .x) n
 unfoldable pub solvedShares : ℕ → List Float → Shares
 solvedShares n T = answered (solveOf n (shareTable n T) (shareSides n)) n
 
+-- the shares of the labels before the first reading, and their check: what every call starts from
+abbrev pub startShares : MsarParams → Shares
+startShares q = solvedShares (k q) (q .transition)
+
 -- the parameter checks first
 abbrev pub checked : Check → Shares → Shares
 checked Passed s = s
 checked (Failed r) s = none r
 
 unfoldable pub sharesOf : MsarParams → Shares
-sharesOf q = checked (parameterCheck q) (solvedShares (k q) (q .transition))
+sharesOf q = checked (parameterCheck q) (startShares q)

@@ -1,55 +1,91 @@
-use Prim.Native.Nat.{_-_}
+-- `filter` meets its contract: refused with nothing touched, or what its run leaves.
+use Prim.Native.Nat.{_*_, _≤_}
+use mathlib.Core.Path.{_≡_, sym, subst, _∙_}
 use borrow.Author.Needs.{needs}
 use lib.ListN.{length}
 use Rattle.number.specs.Number.{zero⁺}
-use Rattle.calls.proofs.Admitted.{admits, is-admitted, long-enough}
-use Rattle.calls.proofs.Outcomes.{filter-refused, filter-ran}
-use Rattle.binding.specs.declared.Tables.the-variants.{One}
+use Rattle.refusal.specs.declared.Check.{Check}
+use Rattle.refusal.specs.declared.Check.the-variants.{Passed}
+use Rattle.refusal.proofs.Checks.{both}
+use Rattle.binding.specs.Binding.{admittedCheck}
+use Rattle.binding.proofs.Passed.{small, admits}
+use Rattle.calls.proofs.Admitted.{one-checked, Admitted, is-admitted, long-enough}
+use Rattle.calls.proofs.Outcomes.{loglikeOwn, filterOwn, filter-refused, filter-ran}
 use Rattle.calls.proofs.filter.Statement.{statement}
 use Rattle.calls.proofs.filter.Tie as tie
-use Rattle.binding.proofs.admit.Reads as admit-reads
+use Rattle.binding.proofs.bind.Reads as bind-reads
+use Rattle.binding.proofs.parameters.Reads as parameters-reads
 use Rattle.filter.proofs.refused.Reads as refused-reads
+use Rattle.refusal.proofs.first_of.Reads as first-of-reads
+use Rattle.calls.proofs.memory.Reads as memory-reads
 use Rattle.calls.proofs.run_filter.Reads as run-filter-reads
 
-returns : tie.Need-returns
-returns c =
-    filter-refused (c .before .before .before .before .before .before .before .before .args .s) (c .before .before .before .before .before .before .before .before .args .y .now) (c .before .before .before .before .before .before .before .before .args .q) (c .before .before .before .before .before .before .before .before .args .work .now) (c .refused .ensures zero⁺) (c .before .before .before .before .before .before .before .before .args .filtered .now)
-    (admits (c .before .before .before .before .before .before .before .before .args .s) (c .before .before .before .before .before .before .before .before .args .y .now) (c .before .before .before .before .before .before .before .before .args .q) _ (One (length (c .before .before .before .before .before .before .before .before .args .filtered .now))) (c .before .before .before .before .admit .ensures) (c .before .before .check .given .1))
+memory-requires : tie.Need-memory-requires
+memory-requires c κs = let s = small _ _ (c .bind .ensures) in (s .work, s .table)
 
-enum-told : tie.Need-enum-told
-enum-told c = search needs
+-- after the checks
+module _ (c : tie.After-first-of2) where
+  abbrev bound : tie.After-bind
+  bound = c .before .before .before .before
+
+  abbrev start : tie.Start
+  start = bound .before .before .before .before
+
+  abbrev own : Check
+  own = filterOwn (start .args .s) (start .args .y .now) (start .args .q) (start .args .work .now) (start .args .filtered .now)
+
+  checked : c .first-of2 .result ≡ admittedCheck (start .args .s) (start .args .y .now) own (start .args .q)
+  checked =
+      admits (start .args .s) (start .args .y .now) (bound .bind .ensures) (start .args .q) own
+      (one-checked (start .args .s) (start .args .y .now) (bound .bind .ensures) _ _ (c .before .before .before .memory .ensures)) (c .before .before .parameters .ensures)
+      (rw (← c .before .first-of .ensures) (c .first-of2 .ensures))
+
+  admitted : c .first-of2 .result ≡ Passed → Admitted (start .args .s) (start .args .y .now) (bound .bind .ensures) (start .args .q) own
+  admitted d = is-admitted (start .args .s) (start .args .y .now) (bound .bind .ensures) (start .args .q) own (sym checked ∙ d)
 
 run-filter-requires : tie.Need-run-filter-requires
 run-filter-requires c κs =
-    let in-order = is-admitted (c .before .before .before .before .before .before .before .before .args .s) (c .before .before .before .before .before .before .before .before .args .y .now) (c .before .before .before .before .before .before .before .before .args .q) _ (One (length (c .before .before .before .before .before .before .before .before .args .filtered .now))) (c .before .before .before .before .admit .ensures) (c .before .before .enum-told .given .1) in (
-      in-order .shape,
+    let s = start (c .before .before .before .before) .args in
+    let a = admitted (c .before .before .before .before) (c .before .before .enum-told .given .1) in
+    let own = both (loglikeOwn (s .s) (s .y .now) (s .q) (s .work .now)) (a .own-passed) in (
+      a .shape,
       (
-        in-order .windows-are,
-        in-order .power-is,
-        in-order .rows-are,
-        in-order .short,
-        in-order .work-fits,
-        long-enough _ _ (in-order .tables-fit),
+        a .windows-of,
+        a .power-is,
+        a .rows-of,
+        a .short,
+        subst (λ n. n ≤ length (s .work .now)) (sym (a .need-is)) (long-enough _ _ (own .0)),
+        subst (λ n. n ≤ length (s .filtered .now)) (sym (a .table-need)) (long-enough _ _ (own .1)),
       ),
     )
 
+returns : tie.Need-returns
+returns c =
+    let s = start (c .before .before .before .before) .args in
+    filter-refused (s .s) (s .y .now) (s .q) (s .work .now) (c .refused .ensures zero⁺) (s .filtered .now) (sym (checked (c .before .before .before .before)) ∙ c .before .before .r .given .1)
+
 returns-2 : tie.Need-returns-2
 returns-2 c =
-    let in-order = is-admitted (c .before .before .before .before .before .before .before .before .before .before .before .before .before .args .s) (c .before .before .before .before .before .before .before .before .before .before .before .before .before .args .y .now) (c .before .before .before .before .before .before .before .before .before .before .before .before .before .args .q) _ (One (length (c .before .before .before .before .before .before .before .before .before .before .before .before .before .args .filtered .now))) (c .before .before .before .before .before .before .before .before .before .admit .ensures) (c .before .before .before .before .before .before .before .enum-told .given .1) in
-    let ran = c .before .before .before .before .run-filter .ensures in
-    filter-ran (c .before .before .before .before .before .before .before .before .before .before .before .before .before .args .s) (c .before .before .before .before .before .before .before .before .before .before .before .before .before .args .y .now) (c .before .before .before .before .before .before .before .before .before .before .before .before .before .args .q) (c .before .before .before .before .before .before .before .before .before .before .before .before .before .args .work .now) (ran .0) (in-order .need-is) (ran .1 .0) (c .before .before .before .before .before .before .before .before .before .before .before .before .before .args .filtered .now) (ran .1 .1)
-    (admits (c .before .before .before .before .before .before .before .before .before .before .before .before .before .args .s) (c .before .before .before .before .before .before .before .before .before .before .before .before .before .args .y .now) (c .before .before .before .before .before .before .before .before .before .before .before .before .before .args .q) _ (One (length (c .before .before .before .before .before .before .before .before .before .before .before .before .before .args .filtered .now))) (c .before .before .before .before .before .before .before .before .before .admit .ensures) (c .before .before .before .before .before .before .before .enum-told .given .1))
+    let done = c .before .before .before .before in
+    let s = start (done .before .before .before .before .before) .args in
+    let d = done .before .before .before .enum-told .given .1 in
+    let ran = done .run-filter .ensures in
+    filter-ran (s .s) (s .y .now) (s .q) (s .work .now) (ran .0) (admitted (done .before .before .before .before .before) d .need-is) (ran .1 .0) (s .filtered .now) (ran .1 .1) (sym (checked (done .before .before .before .before .before)) ∙ d)
 
 pub filter-spec : {M : Type 1} → statement M
 filter-spec =
     tie.close
     (tie.spec
     (λ c κs. search needs)
+    memory-requires
+    (λ c κs. search needs)
+    (λ c κs. search needs)
+    (λ c κs. search needs)
     (λ c. search needs)
     (λ c κs. search needs)
-    returns
-    enum-told
+    (λ c. search needs)
     run-filter-requires
+    returns
     (λ c. search needs)
     (λ c. search needs)
     returns-2)

@@ -1,43 +1,83 @@
-use Prim.Native.Nat.{_-_}
+-- `loglike` meets its contract: refused with nothing touched, or what its run leaves.
+use Prim.Native.Nat.{_*_, _≤_}
+use mathlib.Core.Path.{_≡_, sym, subst, _∙_}
+use native.Mathlib.Omega.{arith}
 use borrow.Author.Needs.{needs}
+use lib.ListN.{length}
 use Rattle.number.specs.Number.{zero⁺}
-use Rattle.calls.proofs.Admitted.{admits, is-admitted}
-use Rattle.calls.proofs.Outcomes.{loglike-refused, loglike-ran}
-use Rattle.binding.specs.declared.Tables.the-variants.{NoTable}
+use Rattle.refusal.specs.declared.Check.{Check}
+use Rattle.refusal.specs.declared.Check.the-variants.{Passed}
+use Rattle.binding.specs.Binding.{admittedCheck}
+use Rattle.binding.proofs.Passed.{small, admits}
+use Rattle.calls.proofs.Admitted.{work-checked, Admitted, is-admitted, long-enough}
+use Rattle.calls.proofs.Outcomes.{loglikeOwn, loglike-refused, loglike-ran}
 use Rattle.calls.proofs.loglike.Statement.{statement}
 use Rattle.calls.proofs.loglike.Tie as tie
-use Rattle.binding.proofs.admit.Reads as admit-reads
+use Rattle.binding.proofs.bind.Reads as bind-reads
+use Rattle.binding.proofs.memory.Reads as memory-reads
+use Rattle.binding.proofs.parameters.Reads as parameters-reads
 use Rattle.filter.proofs.refused.Reads as refused-reads
+use Rattle.refusal.proofs.first_of.Reads as first-of-reads
 use Rattle.calls.proofs.run_loglike.Reads as run-loglike-reads
 
-returns : tie.Need-returns
-returns c =
-    loglike-refused (c .before .before .before .before .before .before .before .args .s) (c .before .before .before .before .before .before .before .args .y .now) (c .before .before .before .before .before .before .before .args .q) (c .before .before .before .before .before .before .before .args .work .now) (c .refused .ensures zero⁺)
-    (admits (c .before .before .before .before .before .before .before .args .s) (c .before .before .before .before .before .before .before .args .y .now) (c .before .before .before .before .before .before .before .args .q) _ NoTable (c .before .before .before .before .admit .ensures) (c .before .before .check .given .1))
+mul-memory : tie.Need-mul-memory
+mul-memory c = omega (arith, small _ _ (c .before .bind .ensures) .work)
 
-enum-told : tie.Need-enum-told
-enum-told c = search needs
+mul-memory-2 : tie.Need-mul-memory-2
+mul-memory-2 c = omega (arith, small _ _ (c .before .bind .ensures) .work)
+
+-- after the checks
+module _ (c : tie.After-first-of2) where
+  abbrev bound : tie.After-bind
+  bound = c .before .before .before .before .before
+
+  abbrev start : tie.Start
+  start = bound .before .before .before
+
+  abbrev own : Check
+  own = loglikeOwn (start .args .s) (start .args .y .now) (start .args .q) (start .args .work .now)
+
+  checked : c .first-of2 .result ≡ admittedCheck (start .args .s) (start .args .y .now) own (start .args .q)
+  checked =
+      admits (start .args .s) (start .args .y .now) (bound .bind .ensures) (start .args .q) own
+      (work-checked (start .args .s) (start .args .y .now) (bound .bind .ensures) _ (c .before .before .before .memory .ensures)) (c .before .before .parameters .ensures)
+      (rw (← c .before .first-of .ensures) (c .first-of2 .ensures))
+
+  admitted : c .first-of2 .result ≡ Passed → Admitted (start .args .s) (start .args .y .now) (bound .bind .ensures) (start .args .q) own
+  admitted d = is-admitted (start .args .s) (start .args .y .now) (bound .bind .ensures) (start .args .q) own (sym checked ∙ d)
 
 run-loglike-requires : tie.Need-run-loglike-requires
 run-loglike-requires c κs =
-    let in-order = is-admitted (c .before .before .before .before .before .before .args .s) (c .before .before .before .before .before .before .args .y .now) (c .before .before .before .before .before .before .args .q) _ NoTable (c .before .before .before .admit .ensures) (c .before .enum-told .given .1) in
-    (in-order .shape, (in-order .windows-are, in-order .power-is, in-order .rows-are, in-order .short, in-order .work-fits))
+    let a = admitted (c .before .before .before) (c .before .enum-told .given .1) in
+    (a .shape, (a .windows-of, a .power-is, a .rows-of, a .short, subst (λ n. n ≤ length (start (c .before .before .before) .args .work .now)) (sym (a .need-is)) (long-enough _ _ (a .own-passed))))
+
+returns : tie.Need-returns
+returns c =
+    let s = start (c .before .before .before .before) .args in
+    loglike-refused (s .s) (s .y .now) (s .q) (s .work .now) (c .refused .ensures zero⁺) (sym (checked (c .before .before .before .before)) ∙ c .before .before .r .given .1)
 
 returns-2 : tie.Need-returns-2
 returns-2 c =
-    let in-order = is-admitted (c .before .before .before .before .before .before .before .before .before .args .s) (c .before .before .before .before .before .before .before .before .before .args .y .now) (c .before .before .before .before .before .before .before .before .before .args .q) _ NoTable (c .before .before .before .before .before .before .admit .ensures) (c .before .before .before .before .enum-told .given .1) in
-    loglike-ran (c .before .before .before .before .before .before .before .before .before .args .s) (c .before .before .before .before .before .before .before .before .before .args .y .now) (c .before .before .before .before .before .before .before .before .before .args .q) (c .before .before .before .before .before .before .before .before .before .args .work .now) (c .before .before .run-loglike .ensures .0) (in-order .need-is) (c .before .before .run-loglike .ensures .1)
-    (admits (c .before .before .before .before .before .before .before .before .before .args .s) (c .before .before .before .before .before .before .before .before .before .args .y .now) (c .before .before .before .before .before .before .before .before .before .args .q) _ NoTable (c .before .before .before .before .before .before .admit .ensures) (c .before .before .before .before .enum-told .given .1))
+    let s = start (c .before .before .before .before .before .before) .args in
+    let d = c .before .before .before .before .enum-told .given .1 in
+    let ran = c .before .before .run-loglike .ensures in
+    loglike-ran (s .s) (s .y .now) (s .q) (s .work .now) (ran .0) (admitted (c .before .before .before .before .before .before) d .need-is) (ran .1) (sym (checked (c .before .before .before .before .before .before)) ∙ d)
 
 pub loglike-spec : {M : Type 1} → statement M
 loglike-spec =
     tie.close
     (tie.spec
     (λ c κs. search needs)
+    mul-memory
+    mul-memory-2
+    (λ c κs. search needs)
+    (λ c κs. search needs)
+    (λ c κs. search needs)
+    (λ c κs. search needs)
     (λ c. search needs)
     (λ c κs. search needs)
-    returns
-    enum-told
+    (λ c. search needs)
     run-loglike-requires
+    returns
     (λ c. search needs)
     returns-2)

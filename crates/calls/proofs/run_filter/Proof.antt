@@ -1,58 +1,81 @@
-use Prim.Native.Nat.{_-_}
+-- `run_filter` meets its contract: the run's answer, its table where it was not refused, and memory cleared.
+use Prim.Native.Nat.{_<_}
+use mathlib.Core.Path.{refl}
 use native.Mathlib.Omega.{arith}
 use borrow.Author.Needs.{needs}
-use Rattle.calls.proofs.Runs.{all-cleared, rows-fit, windows-split, run-says, filtered-as-found, filtered-is}
+use Rattle.calls.proofs.Runs.{run-cleared, work-small, windows-split, run-says, filtered-as-found, filtered-is}
 use Rattle.calls.proofs.run_filter.Statement.{statement}
 use Rattle.calls.proofs.run_filter.Tie as tie
-use Rattle.filter.proofs.run.Reads as run-reads
+use Rattle.calls.proofs.run.Reads as run-reads
 use Rattle.rows.proofs.clear.Reads as clear-reads
 use Rattle.rows.proofs.tabulate.Reads as tabulate-reads
 
-enum-told : tie.Need-enum-told
-enum-told c = search needs
+-- the run, and the start before it
+abbrev start-of : tie.After-run → tie.Start
+start-of c = c .before .before .before .before .before
+
+abbrev run-of : tie.After-tabulate → tie.After-run
+run-of c = c .before .before .before .before .before .before .before
+
+abbrev refused-run : tie.After-clear2 → tie.After-run
+refused-run c = c .before .before .before .before .before .before
+
+run-requires : tie.Need-run-requires
+run-requires c κs = let h = c .before .before .before .before .pre in (h .0, (h .1 .0, h .1 .1, h .1 .2, h .1 .3, omega (arith, h .1 .4)))
 
 tabulate-requires : tie.Need-tabulate-requires
 tabulate-requires c κs =
-    let start = c .before .before .before .before .before .before .before .before .before .before .before in (
-      omega (arith, start .pre .0 .low),
-      windows-split _ _ (start .pre .1 .0) (start .pre .1 .1),
-      omega (arith, rows-fit (start .args .n) (start .args .m), start .pre .1 .4, c .before .before .before .before .before .before .run .ensures .1 .0 .0),
-      start .pre .1 .5,
-      omega (arith, start .pre .1 .2, start .pre .1 .3),
-    )
+    let run = c .before .before .before .before .before .before in
+    let h = start-of run .pre in
+    (omega (arith, h .0 .low), windows-split _ _ (h .1 .0) (h .1 .1), omega (arith, h .1 .4, run .run .ensures .1 .0 .0), h .1 .5)
+
+mul-clear : tie.Need-mul-clear
+mul-clear c = let s = start-of (run-of (c .before .before .before)) in omega (arith, work-small (s .args .q) _ _ _ (s .pre .0 .few) (s .pre .1 .0) (s .pre .1 .2) (s .pre .1 .3))
+
+mul-clear-2 : tie.Need-mul-clear-2
+mul-clear-2 c = let s = start-of (run-of (c .before .before .before)) in omega (arith, work-small (s .args .q) _ _ _ (s .pre .0 .few) (s .pre .1 .0) (s .pre .1 .2) (s .pre .1 .3))
+
+clear-requires : tie.Need-clear-requires
+clear-requires c κs = let run = run-of (c .before .before .before) in omega (arith, start-of run .pre .1 .4, run .run .ensures .1 .0 .0)
+
+clear-requires-2 : tie.Need-clear-requires-2
+clear-requires-2 c κs = omega (arith, start-of (c .before .before .before .before .before) .pre .1 .4, c .before .before .before .before .before .run .ensures .1 .0 .0)
 
 returns : tie.Need-returns
 returns c =
-    let start = c .before .before .before .before .before .before .before .before .before .before .before .before .before .before .before .before .before .before in
-    let ran = c .before .before .before .before .before .before .before .before .before .before .before .before .before .run .ensures in
-    let passed = run-says (start .args .q) _ (ran .0) (c .before .before .before .before .before .before .before .before .before .enum-told .given .1) in (
+    let tabled = c .before .before .before .before .before .before in
+    let run = run-of tabled in
+    let s = start-of run in
+    let ran = run .run .ensures in
+    let d = tabled .before .before .before .enum-told .given .1 in (
       ran .0,
       (
-        all-cleared _ _ _ _ (ran .1 .0 .1) (c .before .before .clear .ensures),
-        filtered-is (start .args .q) _ _ _ _ (omega (arith, start .pre .0 .low)) (start .pre .1 .0) (start .pre .1 .1) (start .pre .1 .2) passed _ (ran .1 .1 (c .before .before .before .before .before .before .before .before .before .enum-told .given .1)) _ (c .before .before .before .before .before .before .tabulate .ensures),
+        run-cleared _ _ _ _ (ran .1 .0 .1) (c .before .before .clear .ensures),
+        filtered-is (s .args .q) _ _ _ (omega (arith, s .pre .0 .low)) (s .pre .1 .0) (s .pre .1 .1) _ _ _ (ran .1 .1 d) (s .pre .1 .2) (run-says (s .args .q) _ (ran .0) d) refl _ (tabled .tabulate .ensures),
       ),
     )
 
 returns-2 : tie.Need-returns-2
 returns-2 c =
-    let start = c .before .before .before .before .before .before .before .before .before .before .before .before .before in
-    let ran = c .before .before .before .before .before .before .before .before .run .ensures in
-    (ran .0, (all-cleared _ _ _ _ (ran .1 .0 .1) (c .before .before .clear2 .ensures), filtered-as-found (start .args .q) _ (run-says (start .args .q) _ (ran .0) (c .before .before .before .before .enum-told2 .given .1)) _))
+    let run = refused-run (c .before .before) in
+    let s = start-of run in
+    let ran = run .run .ensures in
+    (ran .0, (run-cleared _ _ _ _ (ran .1 .0 .1) (c .before .before .clear2 .ensures), filtered-as-found (s .args .q) _ (run-says (s .args .q) _ (ran .0) (c .before .before .before .before .enum-told2 .given .1)) _))
 
 pub run-filter-spec : {M : Type 1} → statement M
 run-filter-spec =
     tie.close
     (tie.spec
-    (λ c κs. search needs)
-    enum-told
+    run-requires
+    (λ c. search needs)
     tabulate-requires
+    mul-clear
+    mul-clear-2
+    clear-requires
     (λ c. search needs)
     (λ c. search needs)
-    (λ c κs. search needs)
     (λ c. search needs)
-    (λ c. search needs)
-    (λ c. search needs)
-    (λ c κs. search needs)
+    clear-requires-2
     (λ c. search needs)
     (λ c. search needs)
     returns

@@ -1,115 +1,100 @@
-use Prim.Native.Nat.{_*_, _-_, _<_, _≤_}
-use mathlib.Core.Path.{_≡_, _∙_}
-use native.Mathlib.Nat.{mul-le-mul}
+-- `run_smooth` meets its contract: the run's answer, both tables where it was not refused, and memory cleared.
+use Prim.Native.Nat.{_*_, _<_}
+use mathlib.Core.Path.{refl, _∙_}
 use native.Mathlib.Omega.{arith}
 use borrow.Author.Needs.{needs}
-use lib.ListN.{drop}
-use Rattle.calls.proofs.Runs.{all-cleared, rows-fit, windows-split, run-says, filtered-as-found, smoothed-as-found, filtered-is, smoothed-is}
+use Rattle.params.specs.Parameters.{k}
+use Rattle.calls.proofs.Runs.{drop-more, run-cleared, work-small, windows-split, run-says, filtered-as-found, smoothed-as-found, filtered-is, smoothed-is}
 use Rattle.calls.proofs.run_smooth.Statement.{statement}
 use Rattle.calls.proofs.run_smooth.Tie as tie
-use Rattle.filter.proofs.run.Reads as run-reads
+use Rattle.calls.proofs.run.Reads as run-reads
+use Rattle.calls.proofs.smooth_rows.Reads as smooth-rows-reads
 use Rattle.rows.proofs.clear.Reads as clear-reads
 use Rattle.rows.proofs.tabulate.Reads as tabulate-reads
-use Rattle.smoother.proofs.smooth.Reads as smooth-reads
 
-work-small : (c : tie.Start) → 3 * (c .args .n * c .args .m) < 4294967296
-work-small c =
-    let n : c .args .n ≤ 4096 = omega (arith, c .pre .1 .2, c .pre .1 .3) in
-    let m : c .args .m ≤ 256 = omega (arith, c .pre .1 .0, c .pre .0 .few) in
-    omega (arith, mul-le-mul n m)
+-- the calls, and the start before them
+abbrev start-of : tie.After-run → tie.Start
+start-of c = c .before .before .before .before .before .before
 
-enum-told : tie.Need-enum-told
-enum-told c = search needs
+abbrev run-of : tie.After-tabulate → tie.After-run
+run-of c = c .before .before .before .before .before .before .before
+
+abbrev tabled-of : tie.After-smooth-rows → tie.After-tabulate
+tabled-of c = c .before .before .before .before .before
+
+run-requires : tie.Need-run-requires
+run-requires c κs = let h = c .before .before .before .before .before .pre in (h .0, (h .1 .0, h .1 .1, h .1 .2, h .1 .3, omega (arith, h .1 .4)))
 
 tabulate-requires : tie.Need-tabulate-requires
 tabulate-requires c κs =
-    let start = c .before .before .before .before .before .before .before .before .before .before .before .before in (
-      omega (arith, start .pre .0 .low),
-      windows-split _ _ (start .pre .1 .0) (start .pre .1 .1),
-      omega (arith, rows-fit (start .args .n) (start .args .m), start .pre .1 .4, c .before .before .before .before .before .before .run .ensures .1 .0 .0),
-      start .pre .1 .5,
-      omega (arith, start .pre .1 .2, start .pre .1 .3),
-    )
+    let run = c .before .before .before .before .before .before in
+    let h = start-of run .pre in
+    (omega (arith, h .0 .low), windows-split _ _ (h .1 .0) (h .1 .1), omega (arith, h .1 .4, run .run .ensures .1 .0 .0), h .1 .5)
 
-smooth-requires : tie.Need-smooth-requires
-smooth-requires c κs =
-    let start = c .before .before .before .before .before .before .before .before .before .before .before .before .before .before .before .before in
-    let windows = start .pre .1 .0 in (
-      start .pre .0,
-      (
-        start .pre .1 .1,
-        start .pre .1 .7,
-        omega (arith, start .pre .1 .2, start .pre .1 .3),
-        rw (← windows) (omega (arith, rows-fit (start .args .n) (start .args .m), start .pre .1 .4, c .before .before .before .before .before .before .before .before .before .before .run .ensures .1 .0 .0)),
-      ),
-    )
-
-tabulate-requires-2 : tie.Need-tabulate-requires-2
-tabulate-requires-2 c κs =
-    let start = c .before .before .before .before .before .before .before .before .before .before .before .before .before .before .before .before .before .before .before .before .before in (
-      omega (arith, start .pre .0 .low),
-      windows-split _ _ (start .pre .1 .0) (start .pre .1 .1),
-      omega (arith, rows-fit (start .args .n) (start .args .m), start .pre .1 .4, c .before .before .before .before .smooth .ensures .long, c .before .before .before .before .before .before .before .before .before .before .before .before .before .before .before .run .ensures .1 .0 .0),
-      start .pre .1 .6,
-      omega (arith, start .pre .1 .2, start .pre .1 .3),
-    )
+smooth-rows-requires : tie.Need-smooth-rows-requires
+smooth-rows-requires c κs =
+    let run = run-of (c .before .before .before .before) in
+    let h = start-of run .pre in
+    (h .0, (h .1 .0, h .1 .1, h .1 .7, omega (arith, h .1 .4, run .run .ensures .1 .0 .0), h .1 .6))
 
 mul-clear : tie.Need-mul-clear
-mul-clear c = omega (arith, work-small (c .before .before .before .before .before .before .before .before .before .before .before .before .before .before .before .before .before .before .before .before .before .before .before .before .before))
+mul-clear c = let s = start-of (run-of (tabled-of (c .before .before .before .before .before))) in omega (arith, work-small (s .args .q) _ _ _ (s .pre .0 .few) (s .pre .1 .0) (s .pre .1 .2) (s .pre .1 .3))
 
 mul-clear-2 : tie.Need-mul-clear-2
-mul-clear-2 c = omega (arith, work-small (c .before .before .before .before .before .before .before .before .before .before .before .before .before .before .before .before .before .before .before .before .before .before .before .before .before))
+mul-clear-2 c = let s = start-of (run-of (tabled-of (c .before .before .before .before .before))) in omega (arith, work-small (s .args .q) _ _ _ (s .pre .0 .few) (s .pre .1 .0) (s .pre .1 .2) (s .pre .1 .3))
 
 clear-requires : tie.Need-clear-requires
-clear-requires c κs = omega (arith, c .before .before .before .before .before .before .before .before .before .before .before .before .before .before .before .before .before .before .before .before .before .before .before .before .before .pre .1 .4, c .before .before .before .before .before .before .before .before .smooth .ensures .long, c .before .before .before .before .before .before .before .before .before .before .before .before .before .before .before .before .before .before .before .run .ensures .1 .0 .0)
+clear-requires c κs =
+    let run = run-of (tabled-of (c .before .before .before .before .before)) in
+    omega (arith, start-of run .pre .1 .4, run .run .ensures .1 .0 .0, c .before .before .before .before .before .smooth-rows .ensures .0 .0)
+
+clear-requires-2 : tie.Need-clear-requires-2
+clear-requires-2 c κs = omega (arith, start-of (c .before .before .before .before .before) .pre .1 .4, c .before .before .before .before .before .run .ensures .1 .0 .0)
 
 returns : tie.Need-returns
 returns c =
-    let start = c .before .before .before .before .before .before .before .before .before .before .before .before .before .before .before .before .before .before .before .before .before .before .before .before .before .before .before .before in
-    let ran = c .before .before .before .before .before .before .before .before .before .before .before .before .before .before .before .before .before .before .before .before .before .before .run .ensures in
-    let done = c .before .before .before .before .before .before .before .before .before .before .before .smooth .ensures in
-    let passed = run-says (start .args .q) _ (ran .0) (c .before .before .before .before .before .before .before .before .before .before .before .before .before .before .before .before .before .before .enum-told .given .1) in
-    let held = ran .1 .1 (c .before .before .before .before .before .before .before .before .before .before .before .before .before .before .before .before .before .before .enum-told .given .1) in
-    let pos : 0 < start .args .q .«means_count» = omega (arith, start .pre .0 .low) in
-    let rest : drop (2 * start .args .n * start .args .m) (c .before .before .before .before .before .before .before .before .before .before .before .smooth .last .1 .1 .1 .0) ≡ drop (2 * start .args .n * start .args .m) (start .args .work .now) = rw (start .pre .1 .0) (done .rest) ∙ ran .1 .0 .1 in (
+    let done = c .before .before .before .before .before .before .before .before in
+    let tabled = tabled-of done in
+    let run = run-of tabled in
+    let s = start-of run in
+    let a = s .args in
+    let ran = run .run .ensures in
+    let d = tabled .before .before .before .enum-told .given .1 in
+    let pos : 0 < k (a .q) = omega (arith, s .pre .0 .low) in
+    let passed = run-says (a .q) _ (ran .0) d in (
       ran .0,
       (
-        all-cleared _ _ _ _ rest (c .before .before .clear .ensures),
+        run-cleared _ _ _ _ (drop-more (a .n * a .m) (2 * (a .n * a .m)) _ _ (omega arith) (done .smooth-rows .ensures .0 .1) ∙ ran .1 .0 .1) (c .before .before .clear .ensures),
         (
-          filtered-is (start .args .q) _ _ _ _ pos (start .pre .1 .0) (start .pre .1 .1) (start .pre .1 .2) passed _ held _ (c .before .before .before .before .before .before .before .before .before .before .before .before .before .before .before .tabulate .ensures),
-          smoothed-is (start .args .q) _ _ _ _ pos (start .pre .1 .0) (start .pre .1 .1) (start .pre .1 .2) passed _ held _ _ done (c .before .before .before .before .before .before .tabulate2 .ensures),
+          filtered-is (a .q) _ _ _ pos (s .pre .1 .0) (s .pre .1 .1) _ _ _ (ran .1 .1 d) (s .pre .1 .2) passed refl _ (tabled .tabulate .ensures),
+          smoothed-is (a .q) _ _ _ pos (s .pre .1 .0) (s .pre .1 .1) _ _ _ (ran .1 .1 d) (s .pre .1 .2) passed refl _ (done .smooth-rows .ensures .1 _ _ (ran .1 .1 d)),
         ),
       ),
     )
 
 returns-2 : tie.Need-returns-2
 returns-2 c =
-    let start = c .before .before .before .before .before .before .before .before .before .before .before .before .before .before in
-    let ran = c .before .before .before .before .before .before .before .before .run .ensures in
-    let refused = run-says (start .args .q) _ (ran .0) (c .before .before .before .before .enum-told2 .given .1) in (
-      ran .0,
-      (
-        all-cleared _ _ _ _ (ran .1 .0 .1) (c .before .before .clear2 .ensures),
-        (filtered-as-found (start .args .q) _ refused _, smoothed-as-found (start .args .q) _ refused _),
-      ),
-    )
+    let run = c .before .before .before .before .before .before .before .before in
+    let s = start-of run in
+    let ran = run .run .ensures in
+    let refused = run-says (s .args .q) _ (ran .0) (c .before .before .before .before .enum-told2 .given .1) in
+    (ran .0, (run-cleared _ _ _ _ (ran .1 .0 .1) (c .before .before .clear2 .ensures), (filtered-as-found (s .args .q) _ refused _, smoothed-as-found (s .args .q) _ refused _)))
 
 pub run-smooth-spec : {M : Type 1} → statement M
 run-smooth-spec =
     tie.close
     (tie.spec
-    (λ c κs. search needs)
-    enum-told
+    run-requires
+    (λ c. search needs)
     tabulate-requires
-    smooth-requires
-    tabulate-requires-2
+    smooth-rows-requires
     mul-clear
     mul-clear-2
     clear-requires
     (λ c. search needs)
     (λ c. search needs)
     (λ c. search needs)
-    (λ c κs. search needs)
+    clear-requires-2
     (λ c. search needs)
     (λ c. search needs)
     (λ c. search needs)

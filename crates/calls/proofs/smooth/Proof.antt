@@ -1,60 +1,102 @@
-use Prim.Native.Nat.{_-_}
+-- `smooth` meets its contract: refused with nothing touched, or what its run leaves.
+use Prim.Native.Nat.{_*_, _≤_}
+use mathlib.Core.Path.{_≡_, sym, subst, _∙_}
+use native.Mathlib.Omega.{arith}
 use borrow.Author.Needs.{needs}
 use lib.ListN.{length}
 use Rattle.number.specs.Number.{zero⁺}
-use Rattle.calls.proofs.Admitted.{admits, is-admitted, long-enough}
-use Rattle.calls.proofs.Outcomes.{smooth-refused, smooth-ran}
+use Rattle.refusal.specs.declared.Check.{Check}
+use Rattle.refusal.specs.declared.Check.the-variants.{Passed}
 use Rattle.refusal.proofs.Checks.{both}
-use Rattle.binding.specs.Binding.{memoryCheck}
-use Rattle.binding.specs.declared.Tables.the-variants.{Two}
+use Rattle.binding.specs.Binding.{admittedCheck, memoryCheck, tableNeed}
+use Rattle.binding.proofs.Passed.{small, admits}
+use Rattle.calls.proofs.Admitted.{two-checked, Admitted, is-admitted, long-enough}
+use Rattle.calls.proofs.Outcomes.{loglikeOwn, smoothOwn, smooth-refused, smooth-ran}
 use Rattle.calls.proofs.smooth.Statement.{statement}
 use Rattle.calls.proofs.smooth.Tie as tie
-use Rattle.binding.proofs.admit.Reads as admit-reads
+use Rattle.binding.proofs.bind.Reads as bind-reads
+use Rattle.binding.proofs.memory.Reads as memory-2-reads
+use Rattle.binding.proofs.parameters.Reads as parameters-reads
 use Rattle.filter.proofs.refused.Reads as refused-reads
+use Rattle.refusal.proofs.first_of.Reads as first-of-reads
+use Rattle.calls.proofs.memory.Reads as memory-reads
 use Rattle.calls.proofs.run_smooth.Reads as run-smooth-reads
 
-returns : tie.Need-returns
-returns c =
-    smooth-refused (c .before .before .before .before .before .before .before .before .before .args .s) (c .before .before .before .before .before .before .before .before .before .args .y .now) (c .before .before .before .before .before .before .before .before .before .args .q) (c .before .before .before .before .before .before .before .before .before .args .work .now) (c .refused .ensures zero⁺) (c .before .before .before .before .before .before .before .before .before .args .filtered .now) (c .before .before .before .before .before .before .before .before .before .args .smoothed .now)
-    (admits (c .before .before .before .before .before .before .before .before .before .args .s) (c .before .before .before .before .before .before .before .before .before .args .y .now) (c .before .before .before .before .before .before .before .before .before .args .q) _ (Two (length (c .before .before .before .before .before .before .before .before .before .args .filtered .now)) (length (c .before .before .before .before .before .before .before .before .before .args .smoothed .now))) (c .before .before .before .before .admit .ensures) (c .before .before .check .given .1))
+memory-requires : tie.Need-memory-requires
+memory-requires c κs = let s = small _ _ (c .bind .ensures) in (s .work, s .table)
 
-enum-told : tie.Need-enum-told
-enum-told c = search needs
+mul-memory : tie.Need-mul-memory
+mul-memory c = omega (arith, small _ _ (c .before .before .before .bind .ensures) .table)
+
+-- after the checks
+module _ (c : tie.After-first-of3) where
+  abbrev bound : tie.After-bind
+  bound = c .before .before .before .before .before .before .before .before
+
+  abbrev start : tie.Start
+  start = bound .before .before .before .before .before
+
+  abbrev own : Check
+  own = smoothOwn (start .args .s) (start .args .y .now) (start .args .q) (start .args .work .now) (start .args .filtered .now) (start .args .smoothed .now)
+
+  checked : c .first-of3 .result ≡ admittedCheck (start .args .s) (start .args .y .now) own (start .args .q)
+  checked =
+      admits (start .args .s) (start .args .y .now) (bound .bind .ensures) (start .args .q) own
+      (two-checked (start .args .s) (start .args .y .now) (bound .bind .ensures) _ _ _ (c .before .before .before .before .before .before .before .memory .ensures) (c .before .before .before .before .memory2 .ensures) (c .before .before .first-of .ensures)) (c .before .before .before .parameters .ensures)
+      (rw (← c .before .first-of2 .ensures) (c .first-of3 .ensures))
+
+  admitted : c .first-of3 .result ≡ Passed → Admitted (start .args .s) (start .args .y .now) (bound .bind .ensures) (start .args .q) own
+  admitted d = is-admitted (start .args .s) (start .args .y .now) (bound .bind .ensures) (start .args .q) own (sym checked ∙ d)
 
 run-smooth-requires : tie.Need-run-smooth-requires
 run-smooth-requires c κs =
-    let in-order = is-admitted (c .before .before .before .before .before .before .before .before .before .before .args .s) (c .before .before .before .before .before .before .before .before .before .before .args .y .now) (c .before .before .before .before .before .before .before .before .before .before .args .q) _ (Two (length (c .before .before .before .before .before .before .before .before .before .before .args .filtered .now)) (length (c .before .before .before .before .before .before .before .before .before .before .args .smoothed .now))) (c .before .before .before .before .before .admit .ensures) (c .before .before .before .enum-told .given .1) in
-    let tables = both (memoryCheck (length (c .before .before .before .before .before .before .before .before .before .before .args .filtered .now)) _) (in-order .tables-fit) in (
-      in-order .shape,
+    let s = start (c .before .before .before .before .before) .args in
+    let a = admitted (c .before .before .before .before .before) (c .before .before .before .enum-told .given .1) in
+    let own = both (loglikeOwn (s .s) (s .y .now) (s .q) (s .work .now)) (a .own-passed) in
+    let tables = both (memoryCheck (length (s .filtered .now)) (tableNeed (s .s) (s .y .now))) (own .1) in (
+      a .shape,
       (
-        in-order .windows-are,
-        in-order .power-is,
-        in-order .rows-are,
-        in-order .short,
-        in-order .work-fits,
-        long-enough _ _ (tables .0),
-        long-enough _ _ (tables .1),
-        in-order .some,
+        a .windows-of,
+        a .power-is,
+        a .rows-of,
+        a .short,
+        subst (λ n. n ≤ length (s .work .now)) (sym (a .need-is)) (long-enough _ _ (own .0)),
+        subst (λ n. n ≤ length (s .filtered .now)) (sym (a .table-need)) (long-enough _ _ (tables .0)),
+        subst (λ n. n ≤ length (s .smoothed .now)) (sym (a .table-need)) (long-enough _ _ (tables .1)),
+        a .some,
       ),
     )
 
+returns : tie.Need-returns
+returns c =
+    let s = start (c .before .before .before .before) .args in
+    smooth-refused (s .s) (s .y .now) (s .q) (s .work .now) (c .refused .ensures zero⁺) (s .filtered .now) (s .smoothed .now) (sym (checked (c .before .before .before .before)) ∙ c .before .before .r .given .1)
+
 returns-2 : tie.Need-returns-2
 returns-2 c =
-    let in-order = is-admitted (c .before .before .before .before .before .before .before .before .before .before .before .before .before .before .before .before .before .args .s) (c .before .before .before .before .before .before .before .before .before .before .before .before .before .before .before .before .before .args .y .now) (c .before .before .before .before .before .before .before .before .before .before .before .before .before .before .before .before .before .args .q) _ (Two (length (c .before .before .before .before .before .before .before .before .before .before .before .before .before .before .before .before .before .args .filtered .now)) (length (c .before .before .before .before .before .before .before .before .before .before .before .before .before .before .before .before .before .args .smoothed .now))) (c .before .before .before .before .before .before .before .before .before .before .before .before .admit .ensures) (c .before .before .before .before .before .before .before .before .before .before .enum-told .given .1) in
-    let ran = c .before .before .before .before .before .before .run-smooth .ensures in
-    smooth-ran (c .before .before .before .before .before .before .before .before .before .before .before .before .before .before .before .before .before .args .s) (c .before .before .before .before .before .before .before .before .before .before .before .before .before .before .before .before .before .args .y .now) (c .before .before .before .before .before .before .before .before .before .before .before .before .before .before .before .before .before .args .q) (c .before .before .before .before .before .before .before .before .before .before .before .before .before .before .before .before .before .args .work .now) (ran .0) (in-order .need-is) (ran .1 .0) (c .before .before .before .before .before .before .before .before .before .before .before .before .before .before .before .before .before .args .filtered .now) (c .before .before .before .before .before .before .before .before .before .before .before .before .before .before .before .before .before .args .smoothed .now)
-    (ran .1 .1 .0) (ran .1 .1 .1) (admits (c .before .before .before .before .before .before .before .before .before .before .before .before .before .before .before .before .before .args .s) (c .before .before .before .before .before .before .before .before .before .before .before .before .before .before .before .before .before .args .y .now) (c .before .before .before .before .before .before .before .before .before .before .before .before .before .before .before .before .before .args .q) _ (Two (length (c .before .before .before .before .before .before .before .before .before .before .before .before .before .before .before .before .before .args .filtered .now)) (length (c .before .before .before .before .before .before .before .before .before .before .before .before .before .before .before .before .before .args .smoothed .now))) (c .before .before .before .before .before .before .before .before .before .before .before .before .admit .ensures) (c .before .before .before .before .before .before .before .before .before .before .enum-told .given .1))
+    let done = c .before .before .before .before .before .before in
+    let s = start (done .before .before .before .before .before .before) .args in
+    let d = done .before .before .before .before .enum-told .given .1 in
+    let ran = done .run-smooth .ensures in
+    smooth-ran (s .s) (s .y .now) (s .q) (s .work .now) (ran .0) (admitted (done .before .before .before .before .before .before) d .need-is) (ran .1 .0) (s .filtered .now) (s .smoothed .now) (ran .1 .1 .0) (ran .1 .1 .1) (sym (checked (done .before .before .before .before .before .before)) ∙ d)
 
 pub smooth-spec : {M : Type 1} → statement M
 smooth-spec =
     tie.close
     (tie.spec
     (λ c κs. search needs)
+    memory-requires
+    mul-memory
+    (λ c κs. search needs)
+    (λ c κs. search needs)
+    (λ c κs. search needs)
+    (λ c κs. search needs)
+    (λ c κs. search needs)
     (λ c. search needs)
     (λ c κs. search needs)
-    returns
-    enum-told
+    (λ c. search needs)
     run-smooth-requires
+    returns
     (λ c. search needs)
     (λ c. search needs)
     (λ c. search needs)
