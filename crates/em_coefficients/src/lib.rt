@@ -252,7 +252,7 @@ fn solve_blocks(
 // The new coefficients by the smoothed rows in work memory.
 pub fn new_ar(q: MsarParams, y: &[f64], power: usize, n: usize, work: &[f64]) -> Blocks
     requires { ⌜ Shape (k q) (p q) ⌝ }
-    requires { ⌜ (power ≡ k q ^ p q) × (0 < p q) × (p q + n ≡ length (now y)) × (length (now y) ≤ 4096) × (2 * n * k q ^ suc (p q) ≤ length (now work)) × (q .«ar_blocks» ≤ 16) ⌝ }
+    requires { ⌜ (power ≡ k q ^ p q) × (0 < p q) × (p q + n ≡ length (now y)) × (length (now y) ≤ 4096) × (n * k q ^ suc (p q) ≤ length (now work)) × (q .«ar_blocks» ≤ 16) ⌝ }
     ensures { λ r. ⌜ r ≡ newAr q (now (y .entry)) n (λ i. drop (filteredFrom (k q ^ suc (p q)) i) (now (work .entry))) ⌝ }
 {
     let k = q.means_count;
@@ -272,7 +272,7 @@ pub fn new_ar(q: MsarParams, y: &[f64], power: usize, n: usize, work: &[f64]) ->
         );
         add_row(
             work,
-            2 * i * m + m,
+            i * m,
             &distances,
             &q.variances,
             k,

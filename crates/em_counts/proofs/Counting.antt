@@ -16,33 +16,7 @@ use Rattle.number.specs.Table.{_!_}
 use Rattle.number.proofs.Table.{fill-long}
 use Rattle.rows.specs.Memory.{filteredFrom}
 use Rattle.rows.proofs.Cells.{cells-none, cells-one}
-use Rattle.em_counts.specs.Steps.{weightIn, isStep, isBefore, Counted}
-
--- ---- place s of block c of row i
-
-module _ (k m i c s : ℕ) (h : s < k) (d : m % (k * k) ≡ 0) (g : c * k + k ≤ m) where
-  -- how many times k·k goes into a row
-  unfoldable times : ℕ
-  times = m / (k * k)
-
-  split : i * m + c * k + s ≡ (i * times * k + c) * k + s
-  unfolding times
-  split =
-      let w : m ≡ m / (k * k) * (k * k) = sym (div-add-mod' m (k * k)) ∙ rw (d, add-zero) in
-      let e : i * m ≡ i * (m / (k * k)) * k * k = ap (λ (x : ℕ). i * x) w ∙ rw (mul-assoc (i * (m / (k * k))) k k, mul-assoc i (m / (k * k)) (k * k)) in
-      rw (e, add-mul)
-
-  pub now-is : (i * m + c * k + s) % k ≡ s
-  now-is = rw split (digits-mod (i * times * k + c) h)
-
-  pub before-is : (i * m + c * k + s) / k % k ≡ c % k
-  before-is = rw (split, digits-div (i * times * k + c) h) (mul-add-mod-self-right (i * times) k c)
-
-  pub weight-is : (work : List Float) → weightIn m work (i * m + c * k + s) ≡ work ! (filteredFrom m i + c * k + s)
-  unfolding weightIn
-  weight-is work =
-      let b : c * k + s < m = omega arith in
-      rw (add-assoc (i * m) (c * k) s, digits-div i b, digits-mod i b, ← add-assoc (filteredFrom m i) (c * k) s)
+use Rattle.em_counts.specs.Steps.{isStep, isBefore, Counted}
 
 -- ---- what a place counts for: the cell of its two labels, and the column of its label before
 
@@ -74,29 +48,31 @@ module _ (k e s j : ℕ) (h : s < k) (h′ : j < k) (now : e % k ≡ s) (before 
 pub square-within : (k : ℕ) → k ≤ 16 → k * k ≤ 256
 square-within k h = mul-le-mul h h
 
-module _ (k m : ℕ) (work : List Float) (few : k ≤ 16) where
-  pub counted-none : Counted k m work 0 (replicate 256 zero⁺) (replicate 16 zero⁺)
+module _ (k : ℕ) (work : List Float) (few : k ≤ 16) where
+  pub counted-none : Counted k work 0 (replicate 256 zero⁺) (replicate 16 zero⁺)
   counted-none = record { cells = cells-none _ _ (k * k) 256 (square-within k few); sums = cells-none _ _ k 16 few }
 
-  module _ {e : ℕ} {counts columns : List Float} (C : Counted k m work e counts columns) where
+  module _ {e : ℕ} {counts columns : List Float} (C : Counted k work e counts columns) where
     pub counts-long : length counts ≡ 256
     counts-long = fill-long _ (k * k) (replicate 256 zero⁺) (C .cells) (square-within k few)
 
     pub columns-long : length columns ≡ 16
     columns-long = fill-long _ k (replicate 16 zero⁺) (C .sums) few
 
-    pub counted-more : (s j : ℕ) {w : Float} → s < k → j < k → e % k ≡ s → e / k % k ≡ j → w ≡ weightIn m work e
-        → Counted k m work (e + 1) (set counts (s * k + j) (counts ! (s * k + j) ⊕ w)) (set columns j (columns ! j ⊕ w))
-    counted-more s j h h′ now before is =
+    counted-more : (s j : ℕ) → s < k → j < k → e % k ≡ s → e / k % k ≡ j
+        → Counted k work (e + 1) (set counts (s * k + j) (counts ! (s * k + j) ⊕ work ! e)) (set columns j (columns ! j ⊕ work ! e))
+    counted-more s j h h′ now before =
+        let here = step-there k e s j h h′ now before in
+        let other = step-elsewhere k e s j h h′ now before in
+        let there = before-there k e s j h h′ now before in
+        let elsewhere = before-elsewhere k e s j h h′ now before in
         record {
-          cells = cells-one (isStep k) (λ _. weightIn m work) (k * k) e (replicate 256 zero⁺) (C .cells) (square-within k few) (s * k + j) (digits-lt h h′) (step-there k e s j h h′ now before) (λ c _. step-elsewhere k e s j h h′ now before c) is;
-          sums = cells-one (isBefore k) (λ _. weightIn m work) k e (replicate 16 zero⁺) (C .sums) few j h′ (before-there k e s j h h′ now before) (λ c _. before-elsewhere k e s j h h′ now before c) is;
+          cells = cells-one (isStep k) _ (k * k) e (replicate 256 zero⁺) (C .cells) (square-within k few) (s * k + j) (digits-lt h h′) here (λ c _. other c) refl;
+          sums = cells-one (isBefore k) _ k e (replicate 16 zero⁺) (C .sums) few j h′ there (λ c _. elsewhere c) refl;
         }
 
--- place s of block c of row i
-pub block-more : (k m i c s : ℕ) (work : List Float) {j : ℕ} {counts columns : List Float} → k ≤ 16 → s < k → j < k → j ≡ c % k → m % (k * k) ≡ 0 → c * k + k ≤ m
-    → Counted k m work (i * m + c * k + s) counts columns
-    → (let w = work ! (filteredFrom m i + c * k + s) in
-    Counted k m work (i * m + c * k + s + 1) (set counts (s * k + j) (counts ! (s * k + j) ⊕ w)) (set columns j (columns ! j ⊕ w)))
-block-more k m i c s work few h h′ e d g C =
-    counted-more k m work few C s _ h h′ (now-is k m i c s h d g) (before-is k m i c s h d g ∙ sym e) (sym (weight-is k m i c s h d g work))
+  -- place s of block c
+  pub block-more : (c s : ℕ) {j : ℕ} {counts columns : List Float} → s < k → j < k → j ≡ c % k → Counted k work (c * k + s) counts columns
+      → (let w = work ! (c * k + s) in
+      Counted k work (c * k + s + 1) (set counts (s * k + j) (counts ! (s * k + j) ⊕ w)) (set columns j (columns ! j ⊕ w)))
+  block-more c s h h′ e C = counted-more C s _ h h′ (digits-mod c h) (rw (digits-div c h) (sym e))

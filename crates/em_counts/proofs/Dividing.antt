@@ -1,9 +1,9 @@
 -- The new table: cells divided by their columns, and that these are the definition's. Assumes nothing.
-use Prim.Native.Nat.{ℕ, zero, suc, _+_, _*_, _/_, _%_, _^_, _<_}
+use Prim.Native.Nat.{ℕ, zero, suc, _+_, _*_, _/_, _%_, _^_, _<_, _≤_}
 use mathlib.Core.Path.{_≡_, refl, sym, _∙_}
 use mathlib.Core.Bool.{true, false}
 use mathlib.Core.List.{List}
-use native.Mathlib.Nat.{pow-suc, one-le-pow, mod-lt, div-add-mod', mul-mod-left, mul-assoc}
+use native.Mathlib.Nat.{pow-suc, one-le-pow, mod-lt, div-add-mod', mul-assoc, mul-le-mul, mul-le-mul-left}
 use native.Mathlib.Omega.{arith}
 use lib.Arith.{digits-div, digits-mod, mod-mul}
 use lib.ListN.{drop, replicate}
@@ -13,16 +13,16 @@ use Rattle.number.specs.Table.{_!_, fillAt}
 use Rattle.number.proofs.Sums.{where-ext}
 use Rattle.number.proofs.Table.{fill-at, fillAt-ext}
 use Rattle.window.specs.Windows.{labels, label}
+use Rattle.window.specs.Shape.{Shape}
 use Rattle.params.specs.declared.MsarParams.{MsarParams}
 use Rattle.params.specs.Parameters.{k, p}
 use Rattle.rows.specs.Rows.{Same, windowsOf}
 use Rattle.rows.specs.Memory.{filteredFrom}
-use Rattle.rows.proofs.Places.{place}
-use Rattle.rows.specs.Smoothed.{places, weightAt}
+use Rattle.rows.specs.Smoothed.{places}
 use Rattle.rows.specs.Steps.{cellAt}
-use Rattle.rows.proofs.SmoothedTable.{weight-same}
+use Rattle.rows.proofs.SmoothedTable.{weight-same, weight-in-memory}
 use Rattle.em_counts.specs.Counts.{count, columnCount, newStep, newTransition}
-use Rattle.em_counts.specs.Steps.{weightIn, isStep, isBefore, Counted, dividedAt}
+use Rattle.em_counts.specs.Steps.{isStep, isBefore, Counted, dividedAt}
 
 -- ---- one cell
 
@@ -56,19 +56,16 @@ module _ (k e : ℕ) (pos : 0 < k) where
       rw (cut (suc p), digits-div (e / k % k ^ suc p) (mod-lt e pos), pow-suc k p, mod-mul (e / k) (pow p) pos)
       (digits-mod (e / k / k % k ^ p) (mod-lt (e / k) pos))
 
--- ---- power is k^p
+-- the places of n rows are n·k^p blocks of k
+pub blocks-are : (k p n : ℕ) {power : ℕ} → power ≡ k ^ p → n * power * k ≡ n * k ^ suc p
+blocks-are k p n e = rw (e, pow-suc k p, mul-assoc)
 
-module _ (k p : ℕ) {power : ℕ} (e : power ≡ k ^ p) where
-  pub windows-are : power * k ≡ k ^ suc p
-  windows-are = rw (e, pow-suc k p)
-
-  -- a row is a whole number of k·k windows
-  pub squares-in : 0 < p → power * k % (k * k) ≡ 0
-  squares-in h = rw e (go p h)
-    where
-      go : (p : ℕ) → 0 < p → k ^ p * k % (k * k) ≡ 0
-      go zero h = absurd (omega (arith, h))
-      go (suc p) h = rw (pow-suc k p, mul-assoc (k ^ p) k k) (mul-mod-left (k ^ p) (k * k))
+pub blocks-few : (k p n : ℕ) {power : ℕ} → Shape k p → power ≡ k ^ p → n ≤ 4096 → n * power ≤ 1048576
+blocks-few k p n {power} s e h =
+    let row : power * k ≤ 256 = rw (e, ← pow-suc k p) (s .few) in
+    let one : 1 ≤ k = omega (arith, s .low) in
+    let few : power ≤ 256 = omega (arith, mul-le-mul-left power one) in
+    mul-le-mul h few
 
 -- ---- all cells
 
@@ -76,22 +73,18 @@ module _ (q : MsarParams) (pos : 0 < k q) (later : 0 < p q) (n : ℕ) (work : Li
   abbrev rows : ℕ → List Float
   rows i = drop (filteredFrom (windowsOf q) i) work
 
-  weight-is-in : (e : ℕ) → weightIn (windowsOf q) work e ≡ weightAt q rows e
-  unfolding weightIn
-  weight-is-in e = sym (place work (filteredFrom (windowsOf q) (e / windowsOf q)) (e % windowsOf q))
-
-  module _ {counts columns : List Float} (C : Counted (k q) (windowsOf q) work (places q n) counts columns) where
+  module _ {counts columns : List Float} (C : Counted (k q) work (places q n) counts columns) where
     count-is : (e : ℕ) → e < k q * k q → counts ! e ≡ count q n rows (e / k q) (e % k q)
     unfolding count cellAt isStep
     count-is e h =
         fill-at _ (k q * k q) (replicate 256 zero⁺) (C .cells) e h
-        ∙ where-ext _ _ _ _ (places q n) (λ x _. rw (now-round (k q) x pos (p q), before-round (k q) x pos (p q) later)) (λ x _. weight-is-in x)
+        ∙ where-ext _ _ _ _ (places q n) (λ x _. rw (now-round (k q) x pos (p q), before-round (k q) x pos (p q) later)) (λ x _. sym (weight-in-memory q work x))
 
     column-is : (j : ℕ) → j < k q → columns ! j ≡ columnCount q n rows j
     unfolding columnCount cellAt isBefore
     column-is j h =
         fill-at _ (k q) (replicate 16 zero⁺) (C .sums) j h
-        ∙ where-ext _ _ _ _ (places q n) (λ x _. rw (before-round (k q) x pos (p q) later)) (λ x _. weight-is-in x)
+        ∙ where-ext _ _ _ _ (places q n) (λ x _. rw (before-round (k q) x pos (p q) later)) (λ x _. sym (weight-in-memory q work x))
 
     step-is : (e : ℕ) → e < k q * k q → dividedAt (k q) (q .transition) counts columns e ≡ newStep q n rows (e / k q) (e % k q)
     unfolding dividedAt newStep

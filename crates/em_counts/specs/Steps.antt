@@ -1,6 +1,6 @@
 -- What the steps of the code give. Where the order is at least 1, the labels run round through the whole table: place e has the label e % k now and
 -- e / k % k before. Cell c of the counts is that of label c / k after label c % k.
-use Prim.Native.Nat.{ℕ, _+_, _*_, _/_, _%_}
+use Prim.Native.Nat.{ℕ, _*_, _/_, _%_}
 use mathlib.Core.Path.{_≡_}
 use mathlib.Core.Bool.{Bool, _&&_}
 use mathlib.Core.List.{List}
@@ -8,12 +8,7 @@ use lib.ListN.{replicate}
 use lib.Ieee.{Float, le}
 use Rattle.number.specs.Number.{if_then_else_, _=?_, _⊘_, zero⁺}
 use Rattle.number.specs.Table.{_!_, fillAt}
-use Rattle.rows.specs.Memory.{filteredFrom}
 use Rattle.rows.specs.Steps.{cellAt}
-
--- the weight at place e of the rows in work memory, m windows a row
-unfoldable pub weightIn : ℕ → List Float → ℕ → Float
-weightIn m work e = work ! (filteredFrom m (e / m) + e % m)
 
 unfoldable pub isStep : ℕ → ℕ → ℕ → Bool
 isStep k c e = e % k =? c / k && e / k % k =? c % k
@@ -21,10 +16,10 @@ isStep k c e = e % k =? c / k && e / k % k =? c % k
 unfoldable pub isBefore : ℕ → ℕ → ℕ → Bool
 isBefore k j e = e / k % k =? j
 
--- all places before e are counted
-pub record Counted (k m : ℕ) (work : List Float) (e : ℕ) (counts columns : List Float) : Type 0 where
-  pub cells : counts ≡ fillAt 0 (cellAt (isStep k) (λ _. weightIn m work) e) (k * k) (replicate 256 zero⁺)
-  pub sums : columns ≡ fillAt 0 (cellAt (isBefore k) (λ _. weightIn m work) e) k (replicate 16 zero⁺)
+-- all places before e are counted; place e of the smoothed table is place e of work memory
+pub record Counted (k : ℕ) (work : List Float) (e : ℕ) (counts columns : List Float) : Type 0 where
+  pub cells : counts ≡ fillAt 0 (cellAt (isStep k) (λ _ x. work ! x) e) (k * k) (replicate 256 zero⁺)
+  pub sums : columns ≡ fillAt 0 (cellAt (isBefore k) (λ _ x. work ! x) e) k (replicate 16 zero⁺)
 
 -- cell e of the new table
 unfoldable pub dividedAt : ℕ → List Float → List Float → List Float → ℕ → Float

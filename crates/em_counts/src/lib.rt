@@ -12,22 +12,20 @@ ghost use Rattle.em_counts.specs.Counts.{newTransition};
 ghost use Rattle.em_counts.specs.Steps.{Counted, dividedAt};
 use params::MsarParams;
 
-// The windows c·k, .., c·k + k - 1 of row i: each label now once, after the one label that they have before.
+// The windows at the places c·k, .., c·k + k - 1: each label now once, after the one label that they have before.
 fn add_block(
     work: &[f64],
     k: usize,
-    m: usize,
-    i: usize,
     c: usize,
     before: usize,
     counts: &mut [f64; 256],
     columns: &mut [f64; 16],
 )
-    requires { ⌜ (k ≤ 16) × (before < k) × (before ≡ c % k) × (m % (k * k) ≡ 0) × (c * k + k ≤ m) × (filteredFrom m i + m ≤ length (now work)) × (i ≤ 4096) ⌝ }
-    requires { ⌜ Counted k m (now work) (i * m + c * k) (now counts) (now columns) ⌝ }
-    ensures { λ _. ⌜ Counted k m (now (work .entry)) (i * m + c * k + k) (now (counts .exit)) (now (columns .exit)) ⌝ }
+    requires { ⌜ (k ≤ 16) × (before < k) × (before ≡ c % k) × (c * k + k ≤ length (now work)) ⌝ }
+    requires { ⌜ Counted k (now work) (c * k) (now counts) (now columns) ⌝ }
+    ensures { λ _. ⌜ Counted k (now (work .entry)) (c * k + k) (now (counts .exit)) (now (columns .exit)) ⌝ }
 {
-    let at = 2 * i * m + m + c * k;
+    let at = c * k;
     for s in 0..k {
         let w = work[at + s];
         let cell = s * k + before;
@@ -36,42 +34,22 @@ fn add_block(
     }
 }
 
-// Row i.
-fn add_row(
+// The first places, so many blocks of k: labels run round through all rows.
+fn add_blocks(
     work: &[f64],
     k: usize,
-    power: usize,
-    i: usize,
+    blocks: usize,
     counts: &mut [f64; 256],
     columns: &mut [f64; 16],
 )
-    requires { ⌜ (k ≤ 16) × (0 < k) × (power * k % (k * k) ≡ 0) × (filteredFrom (power * k) i + power * k ≤ length (now work)) × (i ≤ 4096) ⌝ }
-    requires { ⌜ Counted k (power * k) (now work) (i * (power * k)) (now counts) (now columns) ⌝ }
-    ensures { λ _. ⌜ Counted k (power * k) (now (work .entry)) (i * (power * k) + power * k) (now (counts .exit)) (now (columns .exit)) ⌝ }
+    requires { ⌜ (k ≤ 16) × (0 < k) × (blocks * k ≤ length (now work)) ⌝ }
+    requires { ⌜ Counted k (now work) 0 (now counts) (now columns) ⌝ }
+    ensures { λ _. ⌜ Counted k (now (work .entry)) (blocks * k) (now (counts .exit)) (now (columns .exit)) ⌝ }
 {
-    let m = power * k;
     let mut before = 0;
-    for c in 0..power {
-        add_block(work, k, m, i, c, before, counts, columns);
+    for c in 0..blocks {
+        add_block(work, k, c, before, counts, columns);
         before = window::next_label(before, k);
-    }
-}
-
-// The first n rows.
-fn add_rows(
-    work: &[f64],
-    k: usize,
-    power: usize,
-    n: usize,
-    counts: &mut [f64; 256],
-    columns: &mut [f64; 16],
-)
-    requires { ⌜ (k ≤ 16) × (0 < k) × (power * k % (k * k) ≡ 0) × (2 * n * (power * k) ≤ length (now work)) × (n ≤ 4096) ⌝ }
-    requires { ⌜ Counted k (power * k) (now work) 0 (now counts) (now columns) ⌝ }
-    ensures { λ _. ⌜ Counted k (power * k) (now (work .entry)) (n * (power * k)) (now (counts .exit)) (now (columns .exit)) ⌝ }
-{
-    for i in 0..n {
-        add_row(work, k, power, i, counts, columns);
     }
 }
 
@@ -114,12 +92,12 @@ fn table_of(
 // The n smoothed rows stand in work memory; power is k^order.
 pub fn new_transition(q: MsarParams, power: usize, n: usize, work: &[f64]) -> [f64; 256]
     requires { ⌜ Shape (k q) (p q) ⌝ }
-    requires { ⌜ (0 < p q) × (power ≡ k q ^ p q) × (n ≤ 4096) × (2 * n * windowsOf q ≤ length (now work)) ⌝ }
+    requires { ⌜ (0 < p q) × (power ≡ k q ^ p q) × (n ≤ 4096) × (n * windowsOf q ≤ length (now work)) ⌝ }
     ensures { λ r. ⌜ r ≡ newTransition q n (λ i. drop (filteredFrom (windowsOf q) i) (now (work .entry))) ⌝ }
 {
     let k = q.means_count;
     let mut counts = [0.0; 256];
     let mut columns = [0.0; 16];
-    add_rows(work, k, power, n, &mut counts, &mut columns);
+    add_blocks(work, k, n * power, &mut counts, &mut columns);
     table_of(&q.transition, &counts, &columns, k)
 }

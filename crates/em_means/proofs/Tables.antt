@@ -43,14 +43,14 @@ module _ (q : MsarParams) (pos : 0 < k q) (m : ℕ) (w : windowsOf q ≡ m) wher
       → variances ≡ fillAt 0 (variance q) (k q) lv
       → t ≡ timeOf (p q) (record { 0 = i })
       → ds ≡ fillAt 0 (lessLagsAt (k q) (p q) phis y (t .0)) (k q) ld
-      → Lent q y (λ i. drop (filteredFrom (windowsOf q) i) work) i (k q) (p q) m phis variances ds work (2 * i * m + m)
+      → Lent q y (λ i. drop (filteredFrom (windowsOf q) i) work) i (k q) (p q) m phis variances ds work (i * m)
   lent-for y work i lv ld o v z d = record {
     count-is = refl;
     windows-are = w;
     alphas-are = λ a r h j. rw o (sensitivity-is q pos a r (p q) (rw w h) (le-refl (p q)));
     variances-are = λ s j. fill-at _ (k q) lv v s j;
     ds-are = ds-hold y ld i o z d;
-    weights-are = λ a h. rw w (place work (2 * i * m + m) a);
+    weights-are = λ a h. rw w (place work (i * m) a);
   }
 
 module _ (q : MsarParams) (y : List Float) (rows : ℕ → List Float) where

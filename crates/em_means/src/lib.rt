@@ -214,7 +214,7 @@ fn add_rows(
     rhs: &mut [f64; 16],
 )
     requires { ⌜ Shape (k q) (p q) ⌝ }
-    requires { ⌜ (power ≡ k q ^ p q) × (p q + n ≡ length (now y)) × (length (now y) ≤ 4096) × (2 * n * windowsOf q ≤ length (now work)) × (now mat ≡ replicate 256 zero⁺) × (now rhs ≡ replicate 16 zero⁺) ⌝ }
+    requires { ⌜ (power ≡ k q ^ p q) × (p q + n ≡ length (now y)) × (length (now y) ≤ 4096) × (n * windowsOf q ≤ length (now work)) × (now mat ≡ replicate 256 zero⁺) × (now rhs ≡ replicate 16 zero⁺) ⌝ }
     ensures { λ _. ⌜ Summed q (now (y .entry)) (λ i. drop (filteredFrom (windowsOf q) i) (now (work .entry))) (places q n) (now (mat .exit)) (now (rhs .exit)) ⌝ }
 {
     let k = q.means_count;
@@ -225,25 +225,14 @@ fn add_rows(
     for i in 0..n {
         let t = window::time_of(Row(i), q.order);
         less_lags_by_label(&mut ds, &phis, y, t, k, q.order);
-        add_row(
-            mat,
-            rhs,
-            &phis,
-            &variances,
-            &ds,
-            work,
-            2 * i * m + m,
-            k,
-            q.order,
-            m,
-        );
+        add_row(mat, rhs, &phis, &variances, &ds, work, i * m, k, q.order, m);
     }
 }
 
 // The new means; 21 with place 1 where their equations are singular.
 pub fn new_means(q: MsarParams, y: &[f64], power: usize, n: usize, work: &[f64]) -> Update
     requires { ⌜ Shape (k q) (p q) ⌝ }
-    requires { ⌜ (power ≡ k q ^ p q) × (p q + n ≡ length (now y)) × (length (now y) ≤ 4096) × (2 * n * windowsOf q ≤ length (now work)) ⌝ }
+    requires { ⌜ (power ≡ k q ^ p q) × (p q + n ≡ length (now y)) × (length (now y) ≤ 4096) × (n * windowsOf q ≤ length (now work)) ⌝ }
     ensures { λ r. ⌜ r ≡ newMeans q (now (y .entry)) n (λ i. drop (filteredFrom (windowsOf q) i) (now (work .entry))) ⌝ }
 {
     let mut mat = [0.0; 256];

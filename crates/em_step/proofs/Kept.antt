@@ -64,7 +64,7 @@ still-ready {q′} {q} {n = n} {lent = lent} a r =
       power-is = r .power-is ∙ ap (λ (x : ℕ). x ^ p q) (sym (a .labels)) ∙ ap (λ (x : ℕ). k q′ ^ x) (sym (a .order));
       rows-are = ap (λ (x : ℕ). x + n) (a .order) ∙ r .rows-are;
       short = r .short;
-      fits = subst (λ (x : ℕ). 2 * n * x ≤ lent) (sym (windows-alike a)) (r .fits);
+      fits = subst (λ (x : ℕ). n * x ≤ lent) (sym (windows-alike a)) (r .fits);
       blocks = subst (λ (x : ℕ). x ≤ 16) (sym (a .blocks)) (r .blocks);
       variances = subst (λ (x : ℕ). x ≤ 16) (sym (a .variances)) (r .variances);
     }

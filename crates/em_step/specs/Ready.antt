@@ -20,6 +20,6 @@ pub record Ready (q : MsarParams) (y : List Float) (floor : Float) (power n lent
   pub power-is : power ≡ k q ^ p q
   pub rows-are : p q + n ≡ length y
   pub short : length y ≤ 4096
-  pub fits : 2 * n * windowsOf q ≤ lent
+  pub fits : n * windowsOf q ≤ lent
   pub blocks : q .«ar_blocks» ≤ 16
   pub variances : q .«variances_count» ≤ 16

@@ -184,7 +184,7 @@ pub fn new_variances(
     work: &[f64],
 ) -> [f64; 16]
     requires { ⌜ Shape (k q) (p q) ⌝ }
-    requires { ⌜ (floor ≡ small ⊗ sampleVariance (now y)) × (power ≡ k q ^ p q) × (p q + n ≡ length (now y)) × (length (now y) ≤ 4096) × (2 * n * k q ^ suc (p q) ≤ length (now work)) × (q .«variances_count» ≤ 16) ⌝ }
+    requires { ⌜ (floor ≡ small ⊗ sampleVariance (now y)) × (power ≡ k q ^ p q) × (p q + n ≡ length (now y)) × (length (now y) ≤ 4096) × (n * k q ^ suc (p q) ≤ length (now work)) × (q .«variances_count» ≤ 16) ⌝ }
     ensures { λ r. ⌜ r ≡ newVariances q (now (y .entry)) n (λ i. drop (filteredFrom (k q ^ suc (p q)) i) (now (work .entry))) ⌝ }
 {
     let k = q.means_count;
@@ -207,7 +207,7 @@ pub fn new_variances(
         );
         add_row(
             work,
-            2 * i * m + m,
+            i * m,
             &residuals,
             k,
             count,

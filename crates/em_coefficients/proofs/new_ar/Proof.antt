@@ -2,11 +2,10 @@ use Rattle.em_coefficients.proofs.Sums.{tableSum, sideSum, rowsOf, tabl
 use Rattle.em_coefficients.proofs.Parts.{distances-fit}
 use Rattle.em_coefficients.proofs.Walk.{zeros-summed}
 use Rattle.em_coefficients.specs.Steps.{distanceBy}
-use Rattle.rows.proofs.Places.{rows-within}
 use Rattle.window.proofs.Table.{order-at-most-7}
 use Rattle.window.specs.Time.{timeOf}
 use Rattle.window.specs.declared.Time.{Time}
-use Rattle.number.proofs.Table.{fill-long}
+use Rattle.number.proofs.Table.{fill-long, row-before}
 use Rattle.number.specs.Table.{fillAt}
 use Rattle.number.specs.Number.{zero⁺}
 use Rattle.rows.specs.Rows.{windowsOf}
@@ -53,8 +52,8 @@ in-series : (c : tie.In-loop Inv-loop μ-loop) → c .before .before .before .be
 in-series c = omega (arith, c .loop-test .taken, c .before .before .before .before .pre .1 .2)
 
 in-work : (c : tie.In-loop Inv-loop μ-loop)
-    → 2 * c .before .loop .i * (c .before .before .before .before .args .power * c .before .before .before .before .args .t1 .«means_count») + c .before .before .before .before .args .power * c .before .before .before .before .args .t1 .«means_count» + c .before .before .before .before .args .power * c .before .before .before .before .args .t1 .«means_count» ≤ length (c .before .before .before .before .args .work .now)
-in-work c = let l = rw (← windows (c .before .before .before .before)) at (c .before .before .before .before .pre .1 .4) in omega (arith, l, rows-within (c .before .before .before .before .args .power * c .before .before .before .before .args .t1 .«means_count») _ _ (c .loop-test .taken))
+    → c .before .loop .i * (c .before .before .before .before .args .power * c .before .before .before .before .args .t1 .«means_count») + c .before .before .before .before .args .power * c .before .before .before .before .args .t1 .«means_count» ≤ length (c .before .before .before .before .args .work .now)
+in-work c = let l = rw (← windows (c .before .before .before .before)) at (c .before .before .before .before .pre .1 .4) in omega (arith, l, row-before (c .before .before .before .before .args .power * c .before .before .before .before .args .t1 .«means_count») _ _ (c .loop-test .taken))
 
 mul-m : tie.Need-mul-m Inv-loop μ-loop
 mul-m c = omega (arith, few (c .before .before))
@@ -74,13 +73,7 @@ distances-at-requires c κs =
     (labels-positive start, start .pre .0 .high, order-small start, rw e (omega arith), rw e (in-series (c .before .before .before .before)), c .before .before .before .before .before .loop .inv .1)
 
 mul-add-row : tie.Need-mul-add-row Inv-loop μ-loop
-mul-add-row c = omega (arith, in-series (c .before .before .before .before .before), c .before .before .before .before .before .before .before .before .before .pre .1 .3)
-
-mul-add-row-2 : tie.Need-mul-add-row-2 Inv-loop μ-loop
-mul-add-row-2 c = omega (arith, in-work (c .before .before .before .before .before))
-
-add-add-row : tie.Need-add-add-row Inv-loop μ-loop
-add-add-row c = omega (arith, in-work (c .before .before .before .before .before))
+mul-add-row c = omega (arith, in-work (c .before .before .before .before .before))
 
 add-row-requires : tie.Need-add-row-requires Inv-loop μ-loop
 add-row-requires c κs =
@@ -126,8 +119,6 @@ new-ar-spec =
     time-of-requires
     distances-at-requires
     mul-add-row
-    mul-add-row-2
-    add-add-row
     add-row-requires
     add-i
     (λ c. search needs)

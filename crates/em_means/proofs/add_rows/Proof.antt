@@ -4,12 +4,11 @@ use native.Mathlib.Nat.{zero-mul}
 use native.Mathlib.Omega.{arith}
 use borrow.Author.Needs.{needs}
 use lib.ListN.{length, replicate, drop}
-use Rattle.number.proofs.Table.{fill-long}
+use Rattle.number.proofs.Table.{fill-long, row-before}
 use Rattle.number.specs.Number.{zero⁺}
 use Rattle.window.proofs.Table.{order-at-most-7}
 use Rattle.window.specs.declared.Time.{Time}
 use Rattle.rows.specs.Rows.{windowsOf}
-use Rattle.rows.proofs.Places.{rows-within}
 use Rattle.rows.specs.Memory.{filteredFrom}
 use Rattle.em_means.specs.Steps.{Summed}
 use Rattle.em_means.proofs.Tables.{windows, lent-for, row-more}
@@ -42,9 +41,9 @@ abbrev start : tie.In-loop Inv-loop μ-loop → tie.Start Inv-loop μ-loop
 start c = c .before .before .before .before .before .before
 
 -- row i of the memory
-in-memory : (c : tie.In-loop Inv-loop μ-loop) → 2 * c .before .loop .i * m (start c) + m (start c) + m (start c) ≤ length (start c .args .work .now)
+in-memory : (c : tie.In-loop Inv-loop μ-loop) → c .before .loop .i * m (start c) + m (start c) ≤ length (start c .args .work .now)
 in-memory c =
-    omega (arith, rows-within (m (start c)) _ _ (c .loop-test .taken), rw (windows (start c .args .q) (start c .pre .1 .0)) at (start c .pre .1 .3))
+    omega (arith, row-before (m (start c)) _ _ (c .loop-test .taken), rw (windows (start c .args .q) (start c .pre .1 .0)) at (start c .pre .1 .3))
 
 -- the time of its reading
 at-time : (c : tie.After-time-of Inv-loop μ-loop) → c .time-of .result .0 ≡ start (c .before) .args .q .order + c .before .before .loop .i
@@ -86,13 +85,7 @@ less-lags-by-label-requires c κs =
 mul-add-row : tie.Need-mul-add-row Inv-loop μ-loop
 mul-add-row c =
     let r = c .before .before .before .before .before .before .before .before .before in
-    omega (arith, start r .pre .1, r .loop-test .taken)
-
-mul-add-row-2 : tie.Need-mul-add-row-2 Inv-loop μ-loop
-mul-add-row-2 c = let r = c .before .before .before .before .before .before .before .before .before in omega (arith, in-memory r, start r .good)
-
-add-add-row : tie.Need-add-add-row Inv-loop μ-loop
-add-add-row c = let r = c .before .before .before .before .before .before .before .before .before in omega (arith, in-memory r, start r .good)
+    omega (arith, in-memory r, start r .good)
 
 add-row-requires : tie.Need-add-row-requires Inv-loop μ-loop
 add-row-requires c κs =
@@ -139,8 +132,6 @@ add-rows-spec =
     time-of-requires
     less-lags-by-label-requires
     mul-add-row
-    mul-add-row-2
-    add-add-row
     add-row-requires
     add-i
     (λ c. search needs)

@@ -3,11 +3,10 @@ use Rattle.em_variances.proofs.Walk.{zeros-summed}
 use Rattle.em_variances.specs.Variances.{inBlock, squareAt}
 use Rattle.rows.specs.Smoothed.{weightAt}
 use Rattle.density.specs.Steps.{Parts}
-use Rattle.rows.proofs.Places.{rows-within}
 use Rattle.rows.specs.Memory.{filteredFrom}
 use Rattle.window.specs.declared.Time.{Time}
 use Rattle.window.proofs.Table.{order-at-most-7}
-use Rattle.number.proofs.Table.{fill-long}
+use Rattle.number.proofs.Table.{fill-long, row-before}
 use Rattle.number.specs.Table.{fillAt}
 use Rattle.number.specs.Sums.{sumWhere}
 use Rattle.number.specs.Number.{zero⁺}
@@ -49,8 +48,8 @@ order-small c = order-at-most-7 _ _ (c .pre .0 .low) (c .pre .0 .few)
 
 -- row i lies within the work memory
 in-work : (c : tie.In-loop Inv-loop μ-loop)
-    → 2 * c .before .loop .i * (c .before .before .before .before .before .args .power * c .before .before .before .before .before .args .t1 .«means_count») + c .before .before .before .before .before .args .power * c .before .before .before .before .before .args .t1 .«means_count» + c .before .before .before .before .before .args .power * c .before .before .before .before .before .args .t1 .«means_count» ≤ length (c .before .before .before .before .before .args .work .now)
-in-work c = let l = rw (← windows (c .before .before .before .before .before)) at (c .before .before .before .before .before .pre .1 .4) in omega (arith, l, rows-within (c .before .before .before .before .before .args .power * c .before .before .before .before .before .args .t1 .«means_count») _ _ (c .loop-test .taken))
+    → c .before .loop .i * (c .before .before .before .before .before .args .power * c .before .before .before .before .before .args .t1 .«means_count») + c .before .before .before .before .before .args .power * c .before .before .before .before .before .args .t1 .«means_count» ≤ length (c .before .before .before .before .before .args .work .now)
+in-work c = let l = rw (← windows (c .before .before .before .before .before)) at (c .before .before .before .before .before .pre .1 .4) in omega (arith, l, row-before (c .before .before .before .before .before .args .power * c .before .before .before .before .before .args .t1 .«means_count») _ _ (c .loop-test .taken))
 
 -- the parameters, whose parts are lent one by one
 parts : (c : tie.After-phis Inv-loop μ-loop) → Parts (c .before .before .before .args .t1) (c .before .before .before .args .t1 .«means_count») (c .before .before .before .args .t1 .order) (c .before .before .before .args .t1 .means) (c .phis .result)
@@ -72,13 +71,7 @@ residuals-row-requires : tie.Need-residuals-row-requires Inv-loop μ-loop
 residuals-row-requires c κs = let e = ap (λ (t : Time). t .0) (c .before .time-of .ensures) in (c .before .before .before .before .before .before .before .before .before .before .pre .0, (rw e (omega arith), rw e (omega (arith, c .before .before .before .before .before .loop-test .taken, c .before .before .before .before .before .before .before .before .before .before .pre .1 .2)), c .before .before .before .before .before .before .loop .inv .1))
 
 mul-add-row : tie.Need-mul-add-row Inv-loop μ-loop
-mul-add-row c = omega (arith, c .before .before .before .before .before .before .loop-test .taken, c .before .before .before .before .before .before .before .before .before .before .before .pre .1 .2, c .before .before .before .before .before .before .before .before .before .before .before .pre .1 .3)
-
-mul-add-row-2 : tie.Need-mul-add-row-2 Inv-loop μ-loop
-mul-add-row-2 c = omega (arith, in-work (c .before .before .before .before .before .before))
-
-add-add-row : tie.Need-add-add-row Inv-loop μ-loop
-add-add-row c = omega (arith, in-work (c .before .before .before .before .before .before))
+mul-add-row c = omega (arith, in-work (c .before .before .before .before .before .before))
 
 add-row-requires : tie.Need-add-row-requires Inv-loop μ-loop
 add-row-requires c κs =
@@ -119,8 +112,6 @@ new-variances-spec =
     time-of-requires
     residuals-row-requires
     mul-add-row
-    mul-add-row-2
-    add-add-row
     add-row-requires
     add-i
     (λ c. search needs)
