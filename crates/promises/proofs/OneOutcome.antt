@@ -17,6 +17,7 @@ between-crates M =
       successor = λ 𝓤 H A mem run κs a g r r′ ws ws′. both 𝓤 (λ e e′. (one-outcome e e′, refl));
       next-label = λ 𝓤 H A mem run κs a g r r′ ws ws′. asked 𝓤 (λ h e e′. let s = sym (mod-eq-of-lt (h .0)) in (one-outcome (e _ s) (e′ _ s), refl));
       time-of = λ 𝓤 H A mem run κs a g r r′ ws ws′. both 𝓤 (λ e e′. (one-outcome e e′, refl));
+      said = λ 𝓤 H A mem run κs a g r r′ ws ws′. both 𝓤 (λ e e′. (one-outcome e e′, refl));
       passed = λ 𝓤 H A mem run κs a g r r′ ws ws′. both 𝓤 (λ e e′. (one-outcome e e′, refl));
       refused-params = λ 𝓤 H A mem run κs a g r r′ ws ws′. both 𝓤 (λ e e′. (one-outcome e e′, refl));
       solved-shares = λ 𝓤 H A mem run κs a g r r′ ws ws′. both 𝓤 (λ e e′. (one-outcome e e′, refl));

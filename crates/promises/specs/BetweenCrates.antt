@@ -14,6 +14,7 @@ use Rattle.window.proofs.predecessor as window·predecessor
 use Rattle.window.proofs.successor as window·successor
 use Rattle.window.proofs.next_label as window·next_label
 use Rattle.window.proofs.time_of as window·time_of
+use Rattle.refusal.proofs.Refusal.said as refusal·said
 use Rattle.params.proofs.tidy.passed as params·passed
 use Rattle.params.proofs.tidy.refused as params·refused
 use Rattle.stationary.proofs.solved_shares as stationary·solved_shares
@@ -52,7 +53,8 @@ pub record BetweenCrates (M : Type 1) : Type 2 where
   pub successor : One M window·successor.ended window·successor.clauses
   pub next-label : OneAsked M window·next_label.ended window·next_label.clauses
   pub time-of : One M window·time_of.ended window·time_of.clauses
-  -- parameters tidied, a refusal beside zeros, the shares of a table
+  -- what a refusal says, parameters tidied, a refusal beside zeros, the shares of a table
+  pub said : One M refusal·said.ended refusal·said.clauses
   pub passed : One M params·passed.ended params·passed.clauses
   pub refused-params : One M params·refused.ended params·refused.clauses
   pub solved-shares : One M stationary·solved_shares.ended stationary·solved_shares.clauses
