@@ -4,7 +4,7 @@ use Prim.Native.Nat.{ℕ}
 use lib.Ieee.{Float}
 use Rattle.number.specs.Number.{zero⁺}
 use Rattle.refusal.specs.declared.Refusal.{Refusal}
-pub use Rattle.refusal.specs.declared.Said.{Said}
+use Rattle.refusal.specs.declared.Said.{Said}
 use Rattle.refusal.specs.declared.Refusal.the-variants.{FewRegimes, ManyWindows, ManyRegimes, ShortSeries, LongSeries, Reading, Memory, FewMeans, Beyond, Mean, Length, Transition, Column, NoAr, Ar, Variance, Shape, Singular, Share, Likelihood, OrderZero, SampleVariance, Loglike}
 
 abbrev pub saying : ℕ → ℕ → Float → Said
