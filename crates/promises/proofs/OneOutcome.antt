@@ -11,6 +11,9 @@ use Rattle.promises.proofs.EntryPoints.{entry-points}
 between-crates : (M : Type 1) → BetweenCrates M
 between-crates M =
     record {
+      of-whole = λ 𝓤 H A mem run κs a g r r′ ws ws′. both 𝓤 (λ e e′. (one-outcome e e′, refl));
+      first-failing = λ 𝓤 H A mem run κs a g r r′ ws ws′. both 𝓤 (λ e e′. (one-outcome e e′, refl));
+      copy = λ 𝓤 H A mem run κs a g r r′ ws ws′. both 𝓤 (λ e e′. (refl, λ i. (tt, (tt, (one-outcome e e′ i, (tt, tt))))));
       powers = λ 𝓤 H A mem run κs a g r r′ ws ws′. both 𝓤 (λ e e′. (one-outcome e e′, refl));
       label = λ 𝓤 H A mem run κs a g r r′ ws ws′. both 𝓤 (λ e e′. (one-outcome e e′, refl));
       predecessor = λ 𝓤 H A mem run κs a g r r′ ws ws′. both 𝓤 (λ e e′. (one-outcome e e′, refl));

@@ -8,6 +8,9 @@ use prog.Memory.{Memory}
 use prog.Routine.{Routine}
 use ghost.Atoms.{Atoms}
 use denote.Triple.Clauses.{Ended}
+use Rattle.number.proofs.of_whole as number·of_whole
+use Rattle.number.proofs.first_failing as number·first_failing
+use Rattle.number.proofs.copy as number·copy
 use Rattle.window.proofs.powers as window·powers
 use Rattle.window.proofs.label as window·label
 use Rattle.window.proofs.predecessor as window·predecessor
@@ -46,6 +49,10 @@ module _ (M : Type 1) (T : Ended) (c : Contract M T) where
   OneAsked = (𝓤 : URA M) (H : Heap 𝓤) (A : Atoms 𝓤) (mem : Memory → SProp 𝓤) (run : Routine → Fun 𝓤) → OneOutcomeAsked 𝓤 T (c 𝓤 H A mem run)
 
 pub record BetweenCrates (M : Type 1) : Type 2 where
+  -- whole numbers and rows
+  pub of-whole : One M number·of_whole.ended number·of_whole.clauses
+  pub first-failing : One M number·first_failing.ended number·first_failing.clauses
+  pub copy : One M number·copy.ended number·copy.clauses
   -- windows and times
   pub powers : One M window·powers.ended window·powers.clauses
   pub label : One M window·label.ended window·label.clauses

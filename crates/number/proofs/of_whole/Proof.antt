@@ -1,9 +1,10 @@
+-- `of_whole`: below 2^31 the sign bit of the i32 is clear.
 use mathlib.Core.Path.{ap}
 use borrow.Author.Needs.{needs}
 use borrow.Author.Tests.{le-leb}
 use lib.Ieee.{binary64, ofInt}
-use Rattle.exp.proofs.of_whole.Statement.{statement}
-use Rattle.exp.proofs.of_whole.Tie as tie
+use Rattle.number.proofs.of_whole.Statement.{statement}
+use Rattle.number.proofs.of_whole.Tie as tie
 
 returns : tie.Need-returns
 returns c = ap (ofInt binary64) (rw (le-leb _ _ (c .before .pre)))
