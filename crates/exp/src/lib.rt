@@ -1,4 +1,11 @@
 // The exponential, after fdlibm 5.3's e_exp.c. Its k is n here, or -n for an x below zero.
+//
+// Reduction: x = k ln 2 + r with |r| at most ln 2 / 2. ln 2 stands in two parts, LN2_HI with so few digits that k times it is exact;
+// r is kept as hi - lo.
+// Polynomial: r (e^r + 1) / (e^r - 1) is even in r. P1 to P5 fit it on that range, 2 + P1 r^2 + .. + P5 r^10, with an error below
+// 2^-59; so e^r = 1 + r + r c / (2 - c), where c = r - (P1 r^2 + .. + P5 r^10).
+// Scaling: k is added to the exponent of e^r; below -1021 in two steps, since the result may be subnormal.
+// Error: below one unit in the last place, as fdlibm states it. What is proved is that each operation is fdlibm's.
 ghost use mathlib.Core.Path.{_≡_};
 ghost use mathlib.Core.Bool.{true, false};
 ghost use Prim.Native.Nat.{_<_};
