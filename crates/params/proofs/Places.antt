@@ -1,15 +1,12 @@
 -- The checks at each place of an array: what the first place that fails its test makes of them, and what they are where none fails.
 use mathlib.Core.Path.{_≡_, refl}
 use Prim.Native.Nat.{ℕ, _≤_, _<_}
-use lib.Ieee.{Float}
 use Rattle.number.specs.Number.{_⊕_, zero⁺, one}
 use Rattle.number.specs.Table.{_!_}
 use Rattle.number.specs.Tests.{holds, firstNot}
-use Rattle.number.specs.declared.Test.{Test}
 use Rattle.number.specs.declared.Test.the-variants.{Finite, Usable, Between}
 use Rattle.refusal.specs.Checks.{each}
 use Rattle.refusal.specs.declared.Check.the-variants.{Passed, Failed}
-use Rattle.refusal.specs.declared.Refusal.{Refusal}
 use Rattle.refusal.specs.declared.Refusal.the-variants.{Mean, Transition, Ar, Variance}
 use Rattle.refusal.proofs.Each.{each-first}
 use Rattle.params.specs.declared.MsarParams.{MsarParams}

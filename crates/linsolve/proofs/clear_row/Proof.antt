@@ -1,3 +1,4 @@
+-- `clear_row`: a factor of zero leaves the row, any other takes its multiple off.
 use borrow.Author.Needs.{needs}
 use Rattle.linsolve.proofs.Steps.{clear-yes, clear-no}
 use Rattle.linsolve.proofs.clear_row.Statement.{statement}

@@ -1,3 +1,4 @@
+-- `eliminate_column`: it stops at a pivot too small, else the pivot is placed and the column cleared.
 use borrow.Author.Needs.{needs}
 use Rattle.linsolve.proofs.Steps.{column-stops, column-goes}
 use Rattle.linsolve.proofs.eliminate_column.Statement.{statement}

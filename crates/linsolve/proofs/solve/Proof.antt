@@ -1,3 +1,4 @@
+-- `solve`: too large, solved, or singular.
 use borrow.Author.Needs.{needs}
 use Rattle.linsolve.proofs.Steps.{large-is, solved-is, singular-is}
 use Rattle.linsolve.proofs.solve.Statement.{statement}
