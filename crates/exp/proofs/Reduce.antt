@@ -15,7 +15,12 @@ I = 0xB_8AA3_B295_C17F
 
 -- 2 * p < (2 * n + 1) * e
 upper-1 : (n P E G F : ℕ) → n < 2000 → Rounded (P * 2 + E) (E * 2) G F → G < (n + 1) * F → P * 2 < (2 * n + 1) * E
-upper-1 n P E G F N r h = lt-of-not-le (λ (g : (2 * n + 1) * E ≤ P * 2). lt-irrefl G (lt-of-lt-of-le h (le-trans (r .at-least (n + 1) 1 (lit< tt) (exact-small (n + 1) 0 (small n N) (lit≤ tt)) (go (n * E) E P ((2 * n + 1) * E) ((n + 1) * (E * 2)) g (omega arith) (omega arith))) (le-of-eq (mul-one G)))))
+upper-1 n P E G F N r h =
+    lt-of-not-le
+    (λ (g : (2 * n + 1) * E ≤ P * 2).
+    let over = go (n * E) E P ((2 * n + 1) * E) ((n + 1) * (E * 2)) g (omega arith) (omega arith) in
+    let least = r .at-least (n + 1) 1 (lit< tt) (exact-small (n + 1) 0 (small n N) (lit≤ tt)) over in
+    lt-irrefl G (lt-of-lt-of-le h (le-trans least (le-of-eq (mul-one G)))))
   where
     small : (n : ℕ) → n < 2000 → n + 1 < 2 ^ 53
     small n h = omega arith

@@ -2,9 +2,8 @@
 -- fdlibm's k, by which the exponent of the result is moved, is n here, or -n where the sign bit s of x is 1.
 use Prim.Native.Nat.{ℕ, _+_, _-_, _*_, _/_, _%_, _^_}
 use mathlib.Core.List.{List, [], _∷_}
-use lib.IntN.{pos}
-use lib.Ieee.{Float, binary64, neg, lt, toUnsigned, ofInt}
-use Rattle.number.specs.Number.{if_then_else_, _<?_, _≤?_, _=?_, _⊕_, _⊖_, _⊗_, _⊘_, patternOf, float, zero⁺, one, two}
+use lib.Ieee.{Float, neg, lt, toUnsigned}
+use Rattle.number.specs.Number.{if_then_else_, _<?_, _≤?_, _=?_, _⊕_, _⊖_, _⊗_, _⊘_, patternOf, float, ofWhole, zero⁺, one, two}
 use Rattle.number.specs.Table.{_!_}
 
 -- ---- constants
@@ -78,7 +77,7 @@ expWhole x s = toUnsigned 64 (signed s (invLn2 ⊗ x ⊕ halves ! s))
 unfoldable pub expFar : Float → ℕ → Float
 expFar x s =
     let n = expWhole x s in
-    let t = signed s (ofInt binary64 (pos n)) in
+    let t = signed s (ofWhole n) in
     expScale (expPart (x ⊖ t ⊗ ln2Hi ! 0) (t ⊗ ln2Lo ! 0)) n s
 
 -- |x| between 0.5 ln 2 and 1.5 ln 2: k is 1 or -1

@@ -1,9 +1,15 @@
 // The exponential, after fdlibm 5.3's e_exp.c. Its k is n here, or -n for an x below zero.
+//
+// Reduction: x = k ln 2 + r with |r| at most ln 2 / 2. ln 2 stands in two parts, LN2_HI with so few digits that k times it is exact;
+// r is kept as hi - lo.
+// Polynomial: r (e^r + 1) / (e^r - 1) is even in r. P1 to P5 fit it on that range, 2 + P1 r^2 + .. + P5 r^10, with an error below
+// 2^-59; so e^r = 1 + r + r c / (2 - c), where c = r - (P1 r^2 + .. + P5 r^10).
+// Scaling: k is added to the exponent of e^r; below -1021 in two steps, since the result may be subnormal.
+// Error: below one unit in the last place, as fdlibm states it. What is proved is that each operation is fdlibm's.
 ghost use mathlib.Core.Path.{_≡_};
 ghost use mathlib.Core.Bool.{true, false};
-ghost use Prim.Native.Nat.{_<_, _^_};
-ghost use lib.IntN.{pos};
-ghost use lib.Ieee.{binary64, isNan, lt, ofInt, toUnsigned};
+ghost use Prim.Native.Nat.{_<_};
+ghost use lib.Ieee.{isNan, lt, toUnsigned};
 ghost use Rattle.rounding.specs.Bounds.{Within, From};
 ghost use Rattle.exp.specs.Range.{Split, Sized};
 ghost use Rattle.exp.specs.Exp.{overAt, expPoly, expZero, expPart, expFar, expNear, expReduce, expLarge, expOf};
@@ -61,21 +67,13 @@ fn whole_part(v: f64) -> u64
     (0x10_0000_0000_0000 + b % 0x10_0000_0000_0000) >> (1075 - b / 0x10_0000_0000_0000)
 }
 
-// A whole number as an f64, exactly. The signed conversion is one instruction, the unsigned one is five.
-fn of_whole(n: u64) -> f64
-    requires { ⌜ n < 2 ^ 31 ⌝ }
-    ensures { λ r. ⌜ r ≡ ofInt binary64 (pos n) ⌝ }
-{
-    (n as i32) as f64
-}
-
 // x at least 1.5 ln 2. It is not above the overflow threshold, so that the last pattern is infinity's at most, and no NaN's.
 fn exp_up(x: f64) -> f64
     requires { ⌜ Sized false x × (lt overAt x ≡ false) ⌝ }
     ensures { λ r. ⌜ r ≡ expFar x 0 ⌝ }
 {
     let n = whole_part(INV_LN2 * x + HALF[0]);
-    let t = of_whole(n);
+    let t = number::of_whole(n);
     let y = exp_part(x - t * LN2_HI[0], t * LN2_LO[0]);
     f64::from_bits(f64::to_bits(y) + n * 0x10_0000_0000_0000)
 }
@@ -86,7 +84,7 @@ fn exp_down(x: f64) -> f64
     ensures { λ r. ⌜ r ≡ expFar x 1 ⌝ }
 {
     let n = whole_part(-(INV_LN2 * x + HALF[1]));
-    let t = -of_whole(n);
+    let t = -number::of_whole(n);
     let y = exp_part(x - t * LN2_HI[0], t * LN2_LO[0]);
     let b = f64::to_bits(y);
     if n <= 1021 {

@@ -1,2 +1,4 @@
+-- the solver
 pub mod Solver
+-- what the functions below `solve` promise each other
 pub mod Promises

@@ -209,7 +209,7 @@ fn back_substitute(a: &[f64; 256], b: &[f64; 16], n: usize) -> [f64; 16]
 }
 
 // a x = b, where a is a table of n rows and columns.
-pub fn solve(a: [f64; 256], b: [f64; 16], n: usize) -> Solution
+pub fn solve(mut a: [f64; 256], mut b: [f64; 16], n: usize) -> Solution
     ensures { λ r. ⌜ r ≡ solveOf n a b ⌝ }
 {
     // 256 places hold no larger table
@@ -219,10 +219,8 @@ pub fn solve(a: [f64; 256], b: [f64; 16], n: usize) -> Solution
             x: [0.0; 16],
         };
     }
-    let mut table = a;
-    let mut side = b;
-    if eliminate(&mut table, &mut side, n) {
-        let x = back_substitute(&table, &side, n);
+    if eliminate(&mut a, &mut b, n) {
+        let x = back_substitute(&a, &b, n);
         Solution {
             outcome: Outcome::Solved,
             x,

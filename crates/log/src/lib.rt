@@ -1,5 +1,10 @@
-// The natural logarithm of binary64: fdlibm 5.3, e_log.c, operation by operation, each rounded once.
-// fdlibm's k is a - base here: a is the exponent's field, base its bias.
+// The natural logarithm, after fdlibm 5.3's e_log.c. Its k is a - base here: a is the exponent's field, base its bias.
+//
+// Reduction: x = 2^k (1 + f) with 1 + f from the root of 1/2 to the root of 2.
+// Polynomial: with s = f / (2 + f), log (1 + f) = log (1 + s) - log (1 - s) = 2 s + s R, where R is even in s. Lg1 to Lg7 fit it,
+// Lg1 s^2 + .. + Lg7 s^14, with an error below 2^-58; so log (1 + f) = f - s (f - R), or f - (f^2/2 - s (f^2/2 + R)) near the ends of that range.
+// Sum: k ln 2 is added in two parts, LN2_HI with so few digits that k times it is exact.
+// Error: below one unit in the last place, as fdlibm states it. What is proved is that each operation is fdlibm's.
 ghost use mathlib.Core.Path.{_≡_};
 ghost use Rattle.log.specs.Log.{dkOf, logPoly, logClose, logMid, logOut, logFar, logNormal, logOf};
 

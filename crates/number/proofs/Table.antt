@@ -147,6 +147,11 @@ pub fillAt-over : (f : ℕ → Float) (n : ℕ) (l l' : List Float) → drop n l
 unfolding fillAt
 fillAt-over f n l l' h = rw (zero-add, h)
 
+-- what is filled from the part `l[a..]` of a list
+pub fillAt-from : (s a n : ℕ) (l m : List Float) → a + n ≤ length l
+    → fillAt s (λ i. take (length l - a) (drop a l) ! i) n m ≡ fillAt s (λ i. l ! (a + i)) n m
+fillAt-from s a n l m h = fillAt-ext s _ n m _ (λ i b. getD-take (length l - a) (drop a l) i nan (omega arith) ∙ getD-drop a l i nan)
+
 -- ---- places of a table of at most 16 rows and columns
 
 pub cell-below : (n i j : ℕ) → n ≤ 16 → i < n → j < n → i * n + j < 256

@@ -4,3 +4,5 @@ pub mod Number
 pub mod Sums
 -- rows and tables
 pub mod Table
+-- tests of each number of a row
+pub mod Tests

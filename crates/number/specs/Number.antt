@@ -4,7 +4,8 @@
 use Prim.Native.Nat.{ℕ}
 use mathlib.Core.Bool.{Bool, false, cond, _&&_}
 use lib.Dec.{leb, ltb, eqb}
-use lib.Ieee.{Float, nan, inf, fin, binary64, add, sub, mul, div, lt, eq, isNan, ofBits, toBits}
+use lib.IntN.{pos}
+use lib.Ieee.{Float, nan, inf, fin, binary64, add, sub, mul, div, lt, eq, isNan, ofBits, toBits, ofInt}
 use lib.Ieee.Scale.{finite}
 
 infixr 20 if_then_else_
@@ -42,6 +43,10 @@ patternOf x = toBits binary64 x
 
 abbrev pub float : ℕ → Float
 float n = ofBits binary64 n
+
+-- a whole number, rounded where it has more than 53 binary digits
+abbrev pub ofWhole : ℕ → Float
+ofWhole n = ofInt binary64 (pos n)
 
 abbrev pub zero⁺ : Float
 zero⁺ = float 0

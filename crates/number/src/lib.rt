@@ -1,7 +1,12 @@
-// What Rust has as methods of f64, worked out by the program: bit patterns, magnitude, is finite, max.
+// What Rust has as methods of f64, worked out by the program: bit patterns, magnitude, is finite, max; a whole number as an f64; and of
+// rows: the first number that fails a test, a copy.
 ghost use mathlib.Core.Path.{_≡_};
+ghost use Prim.Native.Nat.{_+_, _^_, _≤_, _<_};
+ghost use lib.ListN.{length};
 ghost use lib.Ieee.Scale.{finite};
-ghost use Rattle.number.specs.Number.{patternOf, float, usable, magnitudeOf, maxOf};
+ghost use Rattle.number.specs.Number.{patternOf, float, ofWhole, usable, magnitudeOf, maxOf};
+ghost use Rattle.number.specs.Table.{_!_, fillAt};
+ghost use Rattle.number.specs.Tests.{holds, firstNot};
 
 // The bit pattern of x. A NaN has one pattern here: the language leaves its bits open.
 pub fn pattern(x: f64) -> u64
@@ -21,6 +26,14 @@ pub fn of_pattern(n: u64) -> f64
         return 0.0 / 0.0;
     }
     f64::from_bits(n)
+}
+
+// A whole number as an f64, exactly. The signed conversion is one instruction, the unsigned one is five.
+pub fn of_whole(n: u64) -> f64
+    requires { ⌜ n < 2 ^ 31 ⌝ }
+    ensures { λ r. ⌜ r ≡ ofWhole n ⌝ }
+{
+    (n as i32) as f64
 }
 
 // Rust's `abs`.
@@ -71,4 +84,46 @@ pub fn max(x: f64, y: f64) -> f64
         return x + y;
     }
     x
+}
+
+// ---- rows
+
+// What each number of a row must be: finite, finite and above zero, or finite and between two bounds, which it may equal.
+pub enum Test {
+    Finite,
+    Usable,
+    Between(f64, f64),
+}
+
+fn passes(test: Test, x: f64) -> bool
+    ensures { λ r. ⌜ r ≡ holds test x ⌝ }
+{
+    match test {
+        Test::Finite => is_finite(x),
+        Test::Usable => is_usable(x),
+        Test::Between(low, high) => is_finite(x) & (x >= low) & (x <= high),
+    }
+}
+
+// The first of the places below n whose number fails the test, n where none does.
+pub fn first_failing(test: Test, row: &[f64], n: usize) -> usize
+    requires { ⌜ n ≤ length (now row) ⌝ }
+    ensures { λ r. ⌜ r ≡ firstNot (λ i. holds test (now (row .entry) ! i)) n ⌝ }
+{
+    for i in 0..n {
+        if !passes(test, row[i]) {
+            return i;
+        }
+    }
+    n
+}
+
+// The first n numbers of one row, to the places of another from `at` on.
+pub fn copy(from: &[f64], n: usize, to: &mut [f64], at: usize)
+    requires { ⌜ (n ≤ length (now from)) × (at + n ≤ length (now to)) ⌝ }
+    ensures { λ _. ⌜ now (to .exit) ≡ fillAt at (λ i. now (from .entry) ! i) n (now (to .entry)) ⌝ }
+{
+    for i in 0..n {
+        to[at + i] = from[i];
+    }
 }

@@ -1,18 +1,15 @@
 -- A built record passes the checks again: they read only places that are used. Assumes nothing.
-use mathlib.Core.Path.{_≡_, refl, _∙_}
+use mathlib.Core.Path.{_≡_, _∙_}
 use mathlib.Core.List.{List}
-use Prim.Native.Nat.{ℕ, zero, suc, _+_, _*_, _<_}
-use native.Mathlib.Omega.{arith}
+use Prim.Native.Nat.{ℕ, _+_, _*_, _<_}
 use lib.Arith.{digits-lt}
 use lib.ListN.{List·getD-append}
 use lib.Ieee.{Float, nan}
 use Rattle.number.specs.Table.{_!_, tab, fillAt}
-use Rattle.number.specs.Sums.{sumUp}
 use Rattle.number.proofs.Sums.{sum-ext}
 use Rattle.number.proofs.Table.{length-tab, getD-tab}
 use Rattle.refusal.proofs.Each.{each-ext}
 use Rattle.refusal.specs.Checks.{each}
-use Rattle.refusal.specs.declared.Check.{Check}
 use Rattle.refusal.specs.declared.Check.the-variants.{Passed}
 use Rattle.params.specs.declared.MsarParams.{MsarParams}
 use Rattle.params.specs.Parameters.{k}

@@ -5,7 +5,7 @@ use Prim.Native.Nat.{_≤_, _*_}
 use native.Mathlib.Nat.{mul-le-mul}
 use borrow.Author.Tests.{eqb-true, ltb-false, not-false}
 use Rattle.number.specs.Number.{_<?_, _=?_}
-use Rattle.refusal.specs.Checks.{_before_, _when_, each}
+use Rattle.refusal.specs.Checks.{_when_, each}
 use Rattle.refusal.specs.declared.Refusal.the-variants.{FewMeans, Beyond, Length, NoAr}
 use Rattle.refusal.specs.declared.Check.the-variants.{Passed}
 use Rattle.params.specs.declared.MsarParams.{MsarParams}

@@ -6,17 +6,11 @@ ghost use Rattle.number.specs.Number.{_=?_};
 ghost use Rattle.refusal.specs.Checks.{_before_, _when_, each};
 ghost use Rattle.refusal.specs.declared.Refusal.the-variants.{Length, NoAr};
 ghost use Rattle.params.specs.Parameters.{k, p, P};
-ghost use Rattle.params.specs.Checks.{isProbability, columnSum};
-ghost use Rattle.params.specs.Checks.{meanCheck, entryCheck, columnCheck, arCheck, varianceCheck};
+ghost use Rattle.params.specs.Checks.{columnSum, meanCheck, entryCheck, columnCheck, arCheck, varianceCheck};
 use crate::MsarParams;
+use number::Test;
 use refusal::Check;
 use refusal::Refusal;
-
-fn is_probability(x: f64) -> bool
-    ensures { λ r. ⌜ r ≡ isProbability x ⌝ }
-{
-    number::is_finite(x) & (x >= 0.0) & (x <= 1.0 + 1e-8)
-}
 
 // One for all regimes, or one for each.
 fn one_or_each(count: usize, regimes: usize) -> bool
@@ -41,11 +35,9 @@ pub fn means(q: MsarParams) -> Check
     ensures { λ r. ⌜ r ≡ each (k q) (meanCheck q) ⌝ }
 {
     let n = q.means_count;
-    for i in 0..n {
-        let x = q.means[i];
-        if !number::is_finite(x) {
-            return Check::Failed(Refusal::Mean(i, x));
-        }
+    let i = number::first_failing(Test::Finite, &q.means, n);
+    if i < n {
+        return Check::Failed(Refusal::Mean(i, q.means[i]));
     }
     Check::Passed
 }
@@ -54,11 +46,9 @@ fn entries(q: MsarParams, n: usize) -> Check
     requires { ⌜ n ≤ 256 ⌝ }
     ensures { λ r. ⌜ r ≡ each n (entryCheck q) ⌝ }
 {
-    for e in 0..n {
-        let x = q.transition[e];
-        if !is_probability(x) {
-            return Check::Failed(Refusal::Transition(e, x));
-        }
+    let e = number::first_failing(Test::Between(0.0, 1.0 + 1e-8), &q.transition, n);
+    if e < n {
+        return Check::Failed(Refusal::Transition(e, q.transition[e]));
     }
     Check::Passed
 }
@@ -94,11 +84,9 @@ fn coefficients(q: MsarParams) -> Check
     ensures { λ r. ⌜ r ≡ each (q .«ar_count») (arCheck q) ⌝ }
 {
     let n = q.ar_count;
-    for i in 0..n {
-        let x = q.ar[i];
-        if !number::is_finite(x) {
-            return Check::Failed(Refusal::Ar(i, x));
-        }
+    let i = number::first_failing(Test::Finite, &q.ar, n);
+    if i < n {
+        return Check::Failed(Refusal::Ar(i, q.ar[i]));
     }
     Check::Passed
 }
@@ -108,11 +96,9 @@ fn each_variance(q: MsarParams) -> Check
     ensures { λ r. ⌜ r ≡ each (q .«variances_count») (varianceCheck q) ⌝ }
 {
     let n = q.variances_count;
-    for i in 0..n {
-        let x = q.variances[i];
-        if !number::is_usable(x) {
-            return Check::Failed(Refusal::Variance(i, x));
-        }
+    let i = number::first_failing(Test::Usable, &q.variances, n);
+    if i < n {
+        return Check::Failed(Refusal::Variance(i, q.variances[i]));
     }
     Check::Passed
 }

@@ -1,8 +1,6 @@
 // What the constructor builds: the places that are not used become +0, and after a refusal all of them.
 ghost use mathlib.Core.Path.{_≡_};
 ghost use Prim.Native.Nat.{_≤_};
-ghost use lib.ListN.{length};
-ghost use Rattle.number.specs.Table.{_!_, fillAt};
 ghost use Rattle.refusal.specs.declared.Check.the-variants.{Passed, Failed};
 ghost use Rattle.params.specs.Checks.{parameterCheck};
 ghost use Rattle.params.specs.Built.{tidied, tidy, nothing};
@@ -11,23 +9,13 @@ use crate::MsarParams;
 use refusal::Check;
 use refusal::Refusal;
 
-// Puts the first n places of `given` into `kept`.
-fn keep(kept: &mut [f64], given: &[f64], n: usize)
-    requires { ⌜ (n ≤ length (now kept)) × (n ≤ length (now given)) ⌝ }
-    ensures { λ _. ⌜ now (kept .exit) ≡ fillAt 0 (λ i. now (given .entry) ! i) n (now (kept .entry)) ⌝ }
-{
-    for i in 0..n {
-        kept[i] = given[i];
-    }
-}
-
 // The first n places, and +0 in the others.
 fn tidied_16(given: &[f64; 16], n: usize) -> [f64; 16]
     requires { ⌜ n ≤ 16 ⌝ }
     ensures { λ r. ⌜ r ≡ tidied 16 n (now (given .entry)) ⌝ }
 {
     let mut kept = [0.0; 16];
-    keep(&mut kept, given, n);
+    number::copy(given, n, &mut kept, 0);
     kept
 }
 
@@ -36,7 +24,7 @@ fn tidied_112(given: &[f64; 112], n: usize) -> [f64; 112]
     ensures { λ r. ⌜ r ≡ tidied 112 n (now (given .entry)) ⌝ }
 {
     let mut kept = [0.0; 112];
-    keep(&mut kept, given, n);
+    number::copy(given, n, &mut kept, 0);
     kept
 }
 
@@ -45,7 +33,7 @@ fn tidied_256(given: &[f64; 256], n: usize) -> [f64; 256]
     ensures { λ r. ⌜ r ≡ tidied 256 n (now (given .entry)) ⌝ }
 {
     let mut kept = [0.0; 256];
-    keep(&mut kept, given, n);
+    number::copy(given, n, &mut kept, 0);
     kept
 }
 

@@ -11,12 +11,16 @@ use Rattle.promises.proofs.EntryPoints.{entry-points}
 between-crates : (M : Type 1) → BetweenCrates M
 between-crates M =
     record {
+      of-whole = λ 𝓤 H A mem run κs a g r r′ ws ws′. both 𝓤 (λ e e′. (one-outcome e e′, refl));
+      first-failing = λ 𝓤 H A mem run κs a g r r′ ws ws′. both 𝓤 (λ e e′. (one-outcome e e′, refl));
+      copy = λ 𝓤 H A mem run κs a g r r′ ws ws′. both 𝓤 (λ e e′. (refl, λ i. (tt, (tt, (one-outcome e e′ i, (tt, tt))))));
       powers = λ 𝓤 H A mem run κs a g r r′ ws ws′. both 𝓤 (λ e e′. (one-outcome e e′, refl));
       label = λ 𝓤 H A mem run κs a g r r′ ws ws′. both 𝓤 (λ e e′. (one-outcome e e′, refl));
       predecessor = λ 𝓤 H A mem run κs a g r r′ ws ws′. both 𝓤 (λ e e′. (one-outcome e e′, refl));
       successor = λ 𝓤 H A mem run κs a g r r′ ws ws′. both 𝓤 (λ e e′. (one-outcome e e′, refl));
       next-label = λ 𝓤 H A mem run κs a g r r′ ws ws′. asked 𝓤 (λ h e e′. let s = sym (mod-eq-of-lt (h .0)) in (one-outcome (e _ s) (e′ _ s), refl));
       time-of = λ 𝓤 H A mem run κs a g r r′ ws ws′. both 𝓤 (λ e e′. (one-outcome e e′, refl));
+      said = λ 𝓤 H A mem run κs a g r r′ ws ws′. both 𝓤 (λ e e′. (one-outcome e e′, refl));
       passed = λ 𝓤 H A mem run κs a g r r′ ws ws′. both 𝓤 (λ e e′. (one-outcome e e′, refl));
       refused-params = λ 𝓤 H A mem run κs a g r r′ ws ws′. both 𝓤 (λ e e′. (one-outcome e e′, refl));
       solved-shares = λ 𝓤 H A mem run κs a g r r′ ws ws′. both 𝓤 (λ e e′. (one-outcome e e′, refl));

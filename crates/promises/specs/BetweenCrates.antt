@@ -8,12 +8,16 @@ use prog.Memory.{Memory}
 use prog.Routine.{Routine}
 use ghost.Atoms.{Atoms}
 use denote.Triple.Clauses.{Ended}
+use Rattle.number.proofs.of_whole as number·of_whole
+use Rattle.number.proofs.first_failing as number·first_failing
+use Rattle.number.proofs.copy as number·copy
 use Rattle.window.proofs.powers as window·powers
 use Rattle.window.proofs.label as window·label
 use Rattle.window.proofs.predecessor as window·predecessor
 use Rattle.window.proofs.successor as window·successor
 use Rattle.window.proofs.next_label as window·next_label
 use Rattle.window.proofs.time_of as window·time_of
+use Rattle.refusal.proofs.Refusal.said as refusal·said
 use Rattle.params.proofs.tidy.passed as params·passed
 use Rattle.params.proofs.tidy.refused as params·refused
 use Rattle.stationary.proofs.solved_shares as stationary·solved_shares
@@ -45,6 +49,10 @@ module _ (M : Type 1) (T : Ended) (c : Contract M T) where
   OneAsked = (𝓤 : URA M) (H : Heap 𝓤) (A : Atoms 𝓤) (mem : Memory → SProp 𝓤) (run : Routine → Fun 𝓤) → OneOutcomeAsked 𝓤 T (c 𝓤 H A mem run)
 
 pub record BetweenCrates (M : Type 1) : Type 2 where
+  -- whole numbers and rows
+  pub of-whole : One M number·of_whole.ended number·of_whole.clauses
+  pub first-failing : One M number·first_failing.ended number·first_failing.clauses
+  pub copy : One M number·copy.ended number·copy.clauses
   -- windows and times
   pub powers : One M window·powers.ended window·powers.clauses
   pub label : One M window·label.ended window·label.clauses
@@ -52,7 +60,8 @@ pub record BetweenCrates (M : Type 1) : Type 2 where
   pub successor : One M window·successor.ended window·successor.clauses
   pub next-label : OneAsked M window·next_label.ended window·next_label.clauses
   pub time-of : One M window·time_of.ended window·time_of.clauses
-  -- parameters tidied, a refusal beside zeros, the shares of a table
+  -- what a refusal says, parameters tidied, a refusal beside zeros, the shares of a table
+  pub said : One M refusal·said.ended refusal·said.clauses
   pub passed : One M params·passed.ended params·passed.clauses
   pub refused-params : One M params·refused.ended params·refused.clauses
   pub solved-shares : One M stationary·solved_shares.ended stationary·solved_shares.clauses

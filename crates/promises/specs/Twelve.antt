@@ -10,7 +10,8 @@ use Rattle.number.specs.Number.{_⊘_, patternOf, float, zero⁺, half, one, tw
 use Rattle.number.specs.Sums.{sumUp}
 use Rattle.root.specs.Root.{rootOf}
 use Rattle.window.specs.Windows.{labels, successors, predecessors}
-use Rattle.refusal.specs.Refusals.{Said, saying, said}
+use Rattle.refusal.specs.Refusals.{saying, said}
+use Rattle.refusal.specs.declared.Said.{Said}
 use Rattle.refusal.specs.declared.Check.{Check}
 use Rattle.refusal.specs.declared.Check.the-variants.{Passed, Failed}
 use Rattle.refusal.specs.declared.Refusal.the-variants.{SampleVariance}

@@ -4,12 +4,8 @@ use Prim.Native.Nat.{ℕ}
 use lib.Ieee.{Float}
 use Rattle.number.specs.Number.{zero⁺}
 use Rattle.refusal.specs.declared.Refusal.{Refusal}
+use Rattle.refusal.specs.declared.Said.{Said}
 use Rattle.refusal.specs.declared.Refusal.the-variants.{FewRegimes, ManyWindows, ManyRegimes, ShortSeries, LongSeries, Reading, Memory, FewMeans, Beyond, Mean, Length, Transition, Column, NoAr, Ar, Variance, Shape, Singular, Share, Likelihood, OrderZero, SampleVariance, Loglike}
-
-pub record Said : Type 0 where
-  pub number : ℕ
-  pub place : ℕ
-  pub value : Float
 
 abbrev pub saying : ℕ → ℕ → Float → Said
 saying n i v = record { number = n; place = i; value = v }

@@ -1,6 +1,6 @@
 // Document 01's refusals by name. specs/Refusals.antt gives each its number, its place and its value.
 ghost use mathlib.Core.Path.{_≡_};
-ghost use Rattle.refusal.specs.Refusals.{said};
+ghost use Rattle.refusal.specs.Refusals.{said, saying};
 ghost use Rattle.refusal.specs.Checks.{_before_};
 
 pub enum Refusal {
@@ -29,6 +29,13 @@ pub enum Refusal {
     Loglike,
 }
 
+// What a refusal says: its number in document 01's table, the place and the value that it carries, zero where it carries none.
+pub struct Said {
+    pub number: usize,
+    pub place: usize,
+    pub value: f64,
+}
+
 // What a check finds.
 pub enum Check {
     Passed,
@@ -45,97 +52,65 @@ pub fn first_of(first: Check, second: Check) -> Check
     }
 }
 
+fn saying(number: usize, place: usize, value: f64) -> Said
+    ensures { λ r. ⌜ r ≡ saying number place value ⌝ }
+{
+    Said {
+        number,
+        place,
+        value,
+    }
+}
+
 impl Refusal {
+    pub fn said(self) -> Said
+        ensures { λ r. ⌜ r ≡ said self ⌝ }
+    {
+        match self {
+            Refusal::FewRegimes(k) => saying(1, k, 0.0),
+            Refusal::ManyWindows(k) => saying(2, k, 0.0),
+            Refusal::ManyRegimes(k) => saying(3, k, 0.0),
+            Refusal::ShortSeries(needed) => saying(4, needed, 0.0),
+            Refusal::LongSeries(t) => saying(5, t, 0.0),
+            Refusal::Reading(i) => saying(6, i, 0.0),
+            Refusal::Memory(needed) => saying(7, needed, 0.0),
+            Refusal::FewMeans(count) => saying(10, count, 0.0),
+            Refusal::Beyond(count) => saying(18, count, 0.0),
+            Refusal::Mean(i, v) => saying(11, i, v),
+            Refusal::Length(expected) => saying(12, expected, 0.0),
+            Refusal::Transition(e, v) => saying(13, e, v),
+            Refusal::Column(j, v) => saying(14, j, v),
+            Refusal::NoAr => saying(17, 0, 0.0),
+            Refusal::Ar(i, v) => saying(15, i, v),
+            Refusal::Variance(i, v) => saying(16, i, v),
+            Refusal::Shape => saying(20, 0, 0.0),
+            Refusal::Singular(which) => saying(21, which, 0.0),
+            Refusal::Share(i, v) => saying(22, i, v),
+            Refusal::Likelihood(row) => saying(23, row, 0.0),
+            Refusal::OrderZero => saying(24, 0, 0.0),
+            Refusal::SampleVariance(v) => saying(25, 0, v),
+            Refusal::Loglike => saying(26, 0, 0.0),
+        }
+    }
+
     // The number in document 01's table.
     pub fn number(self) -> usize
         ensures { λ r. ⌜ r ≡ said self .number ⌝ }
     {
-        match self {
-            Refusal::FewRegimes(_) => 1,
-            Refusal::ManyWindows(_) => 2,
-            Refusal::ManyRegimes(_) => 3,
-            Refusal::ShortSeries(_) => 4,
-            Refusal::LongSeries(_) => 5,
-            Refusal::Reading(_) => 6,
-            Refusal::Memory(_) => 7,
-            Refusal::FewMeans(_) => 10,
-            Refusal::Beyond(_) => 18,
-            Refusal::Mean(_, _) => 11,
-            Refusal::Length(_) => 12,
-            Refusal::Transition(_, _) => 13,
-            Refusal::Column(_, _) => 14,
-            Refusal::NoAr => 17,
-            Refusal::Ar(_, _) => 15,
-            Refusal::Variance(_, _) => 16,
-            Refusal::Shape => 20,
-            Refusal::Singular(_) => 21,
-            Refusal::Share(_, _) => 22,
-            Refusal::Likelihood(_) => 23,
-            Refusal::OrderZero => 24,
-            Refusal::SampleVariance(_) => 25,
-            Refusal::Loglike => 26,
-        }
+        self.said().number
     }
 
     // The place that it carries, 0 where it carries none.
     pub fn place(self) -> usize
         ensures { λ r. ⌜ r ≡ said self .place ⌝ }
     {
-        match self {
-            Refusal::FewRegimes(k) => k,
-            Refusal::ManyWindows(k) => k,
-            Refusal::ManyRegimes(k) => k,
-            Refusal::ShortSeries(needed) => needed,
-            Refusal::LongSeries(t) => t,
-            Refusal::Reading(i) => i,
-            Refusal::Memory(needed) => needed,
-            Refusal::FewMeans(count) => count,
-            Refusal::Beyond(count) => count,
-            Refusal::Mean(i, _) => i,
-            Refusal::Length(expected) => expected,
-            Refusal::Transition(e, _) => e,
-            Refusal::Column(j, _) => j,
-            Refusal::Ar(i, _) => i,
-            Refusal::Variance(i, _) => i,
-            Refusal::Singular(which) => which,
-            Refusal::Share(i, _) => i,
-            Refusal::Likelihood(row) => row,
-            Refusal::NoAr => 0,
-            Refusal::Shape => 0,
-            Refusal::OrderZero => 0,
-            Refusal::SampleVariance(_) => 0,
-            Refusal::Loglike => 0,
-        }
+        self.said().place
     }
 
     // The value that it carries, +0 where it carries none.
     pub fn value(self) -> f64
         ensures { λ r. ⌜ r ≡ said self .value ⌝ }
     {
-        match self {
-            Refusal::Mean(_, v) => v,
-            Refusal::Transition(_, v) => v,
-            Refusal::Column(_, v) => v,
-            Refusal::Ar(_, v) => v,
-            Refusal::Variance(_, v) => v,
-            Refusal::Share(_, v) => v,
-            Refusal::SampleVariance(v) => v,
-            Refusal::FewRegimes(_) => 0.0,
-            Refusal::ManyWindows(_) => 0.0,
-            Refusal::ManyRegimes(_) => 0.0,
-            Refusal::ShortSeries(_) => 0.0,
-            Refusal::LongSeries(_) => 0.0,
-            Refusal::Reading(_) => 0.0,
-            Refusal::Memory(_) => 0.0,
-            Refusal::FewMeans(_) => 0.0,
-            Refusal::Beyond(_) => 0.0,
-            Refusal::Length(_) => 0.0,
-            Refusal::NoAr => 0.0,
-            Refusal::Shape => 0.0,
-            Refusal::Singular(_) => 0.0,
-            Refusal::Likelihood(_) => 0.0,
-            Refusal::OrderZero => 0.0,
-            Refusal::Loglike => 0.0,
-        }
+        self.said().value
     }
 }

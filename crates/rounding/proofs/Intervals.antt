@@ -339,9 +339,11 @@ up-div-to {s} {x} {y} {a} {c} {b} {d} p q t u v =
     let t1 = and-r (ltb 0 b) (ltb 0 q && (leb (a * d * q) (p * (c * b)) && exact p q)) t in
     let t2 = and-r (ltb 0 q) (leb (a * d * q) (p * (c * b)) && exact p q) t1 in
     let Q : 0 < q = ltb→lt 0 q (and-l (ltb 0 q) (leb (a * d * q) (p * (c * b)) && exact p q) t1) in
+    let B : 0 < b = ltb→lt 0 b (and-l (ltb 0 b) (ltb 0 q && (leb (a * d * q) (p * (c * b)) && exact p q)) t) in
+    let below : a * d * q ≤ p * (c * b) = leb→le (a * d * q) (p * (c * b)) (and-l (leb (a * d * q) (p * (c * b))) (exact p q) t2) in
     record {
       pos = Q;
-      is = div-to s x y a c b d p q (u .pos) (ltb→lt 0 b (and-l (ltb 0 b) (ltb 0 q && (leb (a * d * q) (p * (c * b)) && exact p q)) t)) Q (u .is) (v .is) (leb→le (a * d * q) (p * (c * b)) (and-l (leb (a * d * q) (p * (c * b))) (exact p q) t2)) (to-exact p q (and-r (leb (a * d * q) (p * (c * b))) (exact p q) t2));
+      is = div-to s x y a c b d p q (u .pos) B Q (u .is) (v .is) below (to-exact p q (and-r (leb (a * d * q) (p * (c * b))) (exact p q) t2));
     }
 
 -- the same where the second is the larger

@@ -1,7 +1,6 @@
 -- Demand 3 for one row: good weights w_0 .. w_(m-1), m ≤ 256, are divided by their float sum, and the quotients summed by label.
 -- Each label's float sum is good, and the exact total of the k of them is within m / 2 ^ (prec - 1) of one. Assumes nothing.
 use mathlib.Core.Path.{_≡_, refl, sym, ap, subst}
-use mathlib.Core.Bool.{false}
 use mathlib.Core.List.{List, [], _∷_}
 use Prim.Native.Nat.{ℕ, suc, _+_, _-_, _*_, _^_, _≤_, _<_}
 use native.Mathlib.Nat.{le-trans, le-of-eq, lt-of-lt-of-le, le-of-suc-le-suc, mul-le-mul-left, mul-le-mul-right, le-of-mul-le-mul-left, le-of-mul-le-mul-right}

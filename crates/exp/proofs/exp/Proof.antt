@@ -1,3 +1,4 @@
+-- `exp`: a NaN, or by the high word of x the large arguments and the others.
 use mathlib.Core.Bool.{Bool, not}
 use mathlib.Core.Path.{refl, sym, subst}
 use borrow.Author.Tests.{le-leb, lt-leb}
@@ -25,7 +26,11 @@ unfolding expOf
 returns-2 c = simp (le-leb _ _ (c .before .if2 .taken)) (c .exp-large .ensures)
 
 exp-reduce-requires : tie.Need-exp-reduce-requires
-exp-reduce-requires c κs = let r = below-large (c .before .before .args .x) _ _ (subst T (sym (c .before .before .good .0 .1)) tt) (no-nan (c .before .before .args .x) (c .before .if1 .left)) (record { word = refl; sign = refl }) (c .if2 .left) in (record { word = refl; sign = refl }, r .0, r .1)
+exp-reduce-requires c κs =
+    let start = c .before .before in
+    let number = no-nan (start .args .x) (c .before .if1 .left) in
+    let r = below-large (start .args .x) _ _ (subst T (sym (start .good .0 .1)) tt) number (record { word = refl; sign = refl }) (c .if2 .left) in
+    (record { word = refl; sign = refl }, r .0, r .1)
 
 returns-3 : tie.Need-returns-3
 unfolding expOf

@@ -1,3 +1,4 @@
+-- `exp_part`: the definition, operation by operation.
 use borrow.Author.Needs.{needs}
 use Rattle.exp.specs.Exp.{expPart}
 use Rattle.exp.proofs.exp_part.Statement.{statement}

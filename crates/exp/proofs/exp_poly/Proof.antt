@@ -1,3 +1,4 @@
+-- `exp_poly`: the table's entries are the definition's.
 use borrow.Author.Needs.{needs}
 use Rattle.exp.specs.Exp.{expPoly}
 use Rattle.exp.proofs.exp_poly.Statement.{statement}

@@ -1,11 +1,20 @@
-use mathlib.Core.Path.{sym, ap, subst, _∙_}
+-- `exp_reduce`: by the high word and the sign, the case of the definition; what each case asks of x follows from them.
+use mathlib.Core.Path.{_≡_, sym, ap, subst, _∙_}
+use mathlib.Core.Bool.{true, false}
 use borrow.Author.Needs.{needs}
 use borrow.Author.Tests.{lt-ltb, le-ltb}
 use lib.Dec.{T}
 use Rattle.exp.specs.Exp.{expFar, expReduce}
+use Rattle.exp.specs.Range.{Sized}
 use Rattle.exp.proofs.Size.{above-zero, below-zero}
 use Rattle.exp.proofs.exp_reduce.Statement.{statement}
 use Rattle.exp.proofs.exp_reduce.Tie as tie
+
+above : (c : tie.Start) → c .args .s ≡ 0 → Sized false (c .args .x)
+above c = above-zero (c .args .x) (c .args .hx) (c .args .s) (subst T (sym (c .good .0 .1)) tt) (c .pre .0) (c .pre .1)
+
+below : (c : tie.Start) → (c .args .s ≡ 0 → ⊥) → Sized true (c .args .x) × (c .args .s ≡ 1)
+below c = below-zero (c .args .x) (c .args .hx) (c .args .s) (subst T (sym (c .good .0 .1)) tt) (c .pre .0) (c .pre .1)
 
 exp-near-requires : tie.Need-exp-near-requires
 exp-near-requires c κs = (c .before .before .pre .0, c .before .if1 .taken, c .if2 .taken)
@@ -15,18 +24,24 @@ unfolding expReduce
 returns c = simp (lt-ltb _ _ (c .before .before .if1 .taken), lt-ltb _ _ (c .before .if2 .taken)) (c .exp-near .ensures)
 
 exp-up-requires : tie.Need-exp-up-requires
-exp-up-requires c κs = (above-zero (c .before .before .before .args .x) (c .before .before .before .args .hx) (c .before .before .before .args .s) (subst T (sym (c .before .before .before .good .0 .1)) tt) (c .before .before .before .pre .0) (c .before .before .before .pre .1) (c .if3 .taken), c .before .before .before .pre .2)
+exp-up-requires c κs = let start = c .before .before .before in (above start (c .if3 .taken), start .pre .2)
 
 returns-2 : tie.Need-returns-2
 unfolding expReduce
-returns-2 c = simp (lt-ltb _ _ (c .before .before .before .if1 .taken), le-ltb _ _ (c .before .before .if2 .left)) (c .exp-up .ensures ∙ ap (expFar (c .before .before .before .before .args .x)) (sym (c .before .if3 .taken)))
+returns-2 c =
+    let far = c .before .before in
+    let start = far .before .before in
+    simp (lt-ltb _ _ (far .before .if1 .taken), le-ltb _ _ (far .if2 .left)) (c .exp-up .ensures ∙ ap (expFar (start .args .x)) (sym (c .before .if3 .taken)))
 
 exp-down-requires : tie.Need-exp-down-requires
-exp-down-requires c κs = below-zero (c .before .before .before .args .x) (c .before .before .before .args .hx) (c .before .before .before .args .s) (subst T (sym (c .before .before .before .good .0 .1)) tt) (c .before .before .before .pre .0) (c .before .before .before .pre .1) (c .if3 .left) .0
+exp-down-requires c κs = below (c .before .before .before) (c .if3 .left) .0
 
 returns-3 : tie.Need-returns-3
 unfolding expReduce
-returns-3 c = simp (lt-ltb _ _ (c .before .before .before .if1 .taken), le-ltb _ _ (c .before .before .if2 .left)) (c .exp-down .ensures ∙ ap (expFar (c .before .before .before .before .args .x)) (sym (below-zero (c .before .before .before .before .args .x) (c .before .before .before .before .args .hx) (c .before .before .before .before .args .s) (subst T (sym (c .before .before .before .before .good .0 .1)) tt) (c .before .before .before .before .pre .0) (c .before .before .before .before .pre .1) (c .before .if3 .left) .1)))
+returns-3 c =
+    let far = c .before .before in
+    let start = far .before .before in
+    simp (lt-ltb _ _ (far .before .if1 .taken), le-ltb _ _ (far .if2 .left)) (c .exp-down .ensures ∙ ap (expFar (start .args .x)) (sym (below start (c .before .if3 .left) .1)))
 
 returns-4 : tie.Need-returns-4
 unfolding expReduce

@@ -1,3 +1,4 @@
+-- `exp_zero`: the definition, operation by operation.
 use borrow.Author.Needs.{needs}
 use Rattle.exp.specs.Exp.{expZero}
 use Rattle.exp.proofs.exp_zero.Statement.{statement}

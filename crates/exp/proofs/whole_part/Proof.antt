@@ -1,3 +1,4 @@
+-- `whole_part`: the digits of the pattern, less those behind the point.
 use mathlib.Core.Path.{sym, subst}
 use native.Mathlib.Omega.{arith}
 use borrow.Author.Needs.{needs}

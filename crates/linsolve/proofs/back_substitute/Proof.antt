@@ -1,3 +1,4 @@
+-- `back_substitute`: so far the unknowns from r on.
 use Prim.Native.Nat.{_-_, _≤_}
 use mathlib.Core.Path.{_≡_}
 use native.Mathlib.Omega.{arith}

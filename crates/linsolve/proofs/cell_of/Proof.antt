@@ -1,3 +1,4 @@
+-- `cell_of`: the place lies within the table.
 use Prim.Native.Nat.{_+_, _*_, _<_}
 use native.Mathlib.Omega.{arith}
 use borrow.Author.Needs.{needs}

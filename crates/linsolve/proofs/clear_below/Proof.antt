@@ -1,3 +1,4 @@
+-- `clear_below`: so far the rows up to r are cleared.
 use Prim.Native.Nat.{suc, _-_, _<_, _≤_}
 use mathlib.Core.Path.{_≡_}
 use native.Mathlib.Omega.{arith}

@@ -1,3 +1,4 @@
+-- `clear_row`: a factor of zero leaves the row, any other takes its multiple off.
 use borrow.Author.Needs.{needs}
 use Rattle.linsolve.proofs.Steps.{clear-yes, clear-no}
 use Rattle.linsolve.proofs.clear_row.Statement.{statement}
@@ -5,9 +6,10 @@ use Rattle.linsolve.proofs.clear_row.Tie as tie
 
 returns : tie.Need-returns
 returns c =
-    let start = c .before .before .before .before .before .before .before .before in
-    clear-yes _ _ _ _ (start .pre .3) (start .pre .4) _ (c .before .before .before .before .before .before .cell-of .ensures) (c .before .before .before .before .cell-of2 .ensures)
-    (c .before .before .before .if1 .taken) (c .less-row .ensures)
+    let test = c .before .before .before in
+    let cells = test .before in
+    let start = cells .before .before .before .before in
+    clear-yes _ _ _ _ (start .pre .3) (start .pre .4) _ (cells .before .before .cell-of .ensures) (cells .cell-of2 .ensures) (test .if1 .taken) (c .less-row .ensures)
 
 returns-2 : tie.Need-returns-2
 returns-2 c =

@@ -1,3 +1,4 @@
+-- `eliminate`: so far c columns are done, each with a pivot large enough.
 use Prim.Native.Nat.{_-_, _≤_}
 use mathlib.Core.Bool.{true}
 use mathlib.Core.Path.{_≡_}

@@ -1,3 +1,4 @@
+-- `exchange_parts`: so far j places of each part are exchanged.
 use Prim.Native.Nat.{_-_, _≤_}
 use mathlib.Core.Path.{_≡_}
 use native.Mathlib.Omega.{arith}

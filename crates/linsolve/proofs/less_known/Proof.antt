@@ -1,3 +1,4 @@
+-- `less_known`: so far the unknowns up to j are taken off.
 use Prim.Native.Nat.{suc, _-_, _<_, _≤_}
 use mathlib.Core.Path.{_≡_}
 use native.Mathlib.Omega.{arith}

@@ -1,3 +1,4 @@
+-- `less_part`: so far j places are less f times their counterparts.
 use Prim.Native.Nat.{_-_, _≤_}
 use mathlib.Core.Path.{_≡_}
 use native.Mathlib.Omega.{arith}

@@ -1,3 +1,4 @@
+-- `magnitude_at`: the magnitude of a cell.
 use borrow.Author.Needs.{needs}
 use Rattle.linsolve.proofs.magnitude_at.Statement.{statement}
 use Rattle.linsolve.proofs.magnitude_at.Tie as tie

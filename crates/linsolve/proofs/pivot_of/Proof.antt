@@ -1,3 +1,4 @@
+-- `pivot_of`: so far the first of the largest from the diagonal down.
 use Prim.Native.Nat.{_-_, _<_, _≤_}
 use mathlib.Core.Logic.{⊎-elim}
 use mathlib.Core.Path.{_≡_}

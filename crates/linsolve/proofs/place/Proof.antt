@@ -1,3 +1,4 @@
+-- `place`: rows exchanged, or the pivot's row stands there already.
 use borrow.Author.Needs.{needs}
 use Rattle.linsolve.proofs.Steps.{placed-swap, placed-same}
 use Rattle.linsolve.proofs.place.Statement.{statement}

@@ -1,3 +1,4 @@
+-- `solve`: too large, solved, or singular.
 use borrow.Author.Needs.{needs}
 use Rattle.linsolve.proofs.Steps.{large-is, solved-is, singular-is}
 use Rattle.linsolve.proofs.solve.Statement.{statement}
@@ -8,8 +9,9 @@ returns c = large-is _ _ _ (c .if1 .taken)
 
 returns-2 : tie.Need-returns-2
 returns-2 c =
-    solved-is _ _ _ (c .before .before .before .before .before .before .before .if1 .left) (c .before .before .before .before .eliminate .ensures)
-    (c .before .before .before .if2 .taken) (c .back-substitute .ensures)
+    let test = c .before .before .before in
+    let done = test .before in
+    solved-is _ _ _ (done .before .before .before .if1 .left) (done .eliminate .ensures) (test .if2 .taken) (c .back-substitute .ensures)
 
 returns-3 : tie.Need-returns-3
 returns-3 c = singular-is _ _ _ (c .before .before .before .before .if1 .left) (c .before .eliminate .ensures) (c .if2 .left)

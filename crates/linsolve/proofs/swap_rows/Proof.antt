@@ -1,3 +1,4 @@
+-- `swap_rows`: the two rows lie apart and within the table.
 use Prim.Native.Nat.{_+_, _*_, _≤_}
 use native.Mathlib.Omega.{arith}
 use borrow.Author.Needs.{needs}

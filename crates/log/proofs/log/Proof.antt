@@ -1,3 +1,4 @@
+-- `log`: zeros, numbers below zero, infinity and NaN, subnormal numbers, the others.
 use mathlib.Core.Bool.{Bool, true, false, not}
 use mathlib.Core.Logic.{⊎-elim}
 use mathlib.Core.Path.{_≡_, refl, sym, subst}

@@ -1,3 +1,4 @@
+-- `log_close`: f zero or not, k zero or not.
 use borrow.Author.Needs.{needs}
 use borrow.Author.Tests.{eq-eqb, ne-eqb}
 use Rattle.log.specs.Log.{logClose}

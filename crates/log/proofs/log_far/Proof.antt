@@ -1,3 +1,4 @@
+-- `log_far`: both ends of the range are one test in the code and two in the definition.
 use borrow.Author.Needs.{needs}
 use Rattle.number.specs.Number.{_<?_}
 use Rattle.log.specs.Log.{logFar}

@@ -1,3 +1,4 @@
+-- `log_normal`: the significand has a number's pattern, and f chooses the case.
 use native.Mathlib.Omega.{arith}
 use borrow.Author.Needs.{needs}
 use borrow.Author.Tests.{lt-ltb, le-ltb}

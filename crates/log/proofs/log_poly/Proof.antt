@@ -1,3 +1,4 @@
+-- `log_poly`: the table's entries are the definition's.
 use borrow.Author.Needs.{needs}
 use Rattle.log.specs.Log.{logPoly}
 use Rattle.log.proofs.log_poly.Statement.{statement}

@@ -1,3 +1,4 @@
+-- `shift`: the difference of two small whole numbers is exact.
 use native.Mathlib.Omega.{arith}
 use borrow.Author.Needs.{needs}
 use Rattle.rounding.proofs.Whole.{sub-whole}

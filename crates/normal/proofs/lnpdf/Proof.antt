@@ -1,3 +1,4 @@
+-- `lnpdf`: the definition, operation by operation.
 use borrow.Author.Needs.{needs}
 use Rattle.normal.specs.Normal.{lnpdfOf}
 use Rattle.normal.proofs.lnpdf.Statement.{statement}

@@ -1,3 +1,4 @@
+-- `is_finite`: x - x is zero exactly where x is finite.
 use Rattle.number.proofs.Cases.{self-difference}
 use Rattle.number.proofs.is_finite.Statement.{statement}
 use Rattle.number.proofs.is_finite.Tie as tie

@@ -1,3 +1,4 @@
+-- `is_usable`: finite and above zero, as the definition has it.
 use borrow.Author.Needs.{needs}
 use Rattle.number.specs.Number.{usable}
 use Rattle.number.proofs.is_usable.Statement.{statement}

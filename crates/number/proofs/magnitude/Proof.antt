@@ -1,3 +1,4 @@
+-- `magnitude`: below zero the negated number, of a zero +0, else the number.
 use mathlib.Core.Path.{sym, subst}
 use lib.Dec.{T}
 use Rattle.number.proofs.Cases.{below-zero, is-zero, above-zero}

@@ -1,3 +1,4 @@
+-- `of_pattern`: past infinity's pattern, less its sign, stand the NaNs.
 use mathlib.Core.Bool.{Bool, not}
 use mathlib.Core.Path.{sym, subst, _∙_}
 use borrow.Author.Needs.{needs}

@@ -1,3 +1,4 @@
+-- `pattern`: a NaN has the one pattern, and what is none may be asked for its bits.
 use mathlib.Core.Bool.{Bool, not}
 use mathlib.Core.Path.{refl, sym, subst}
 use borrow.Author.Needs.{needs}

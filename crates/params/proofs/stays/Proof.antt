@@ -1,3 +1,4 @@
+-- `stays`: so far the durations of i labels, +0 in the other places.
 use mathlib.Core.Path.{_≡_}
 use Prim.Native.Nat.{_-_, _≤_}
 use native.Mathlib.Omega.{arith}

@@ -1,3 +1,4 @@
+-- `by_digits`: after j steps q is the root of the first 2 j digits, cut, and rest what they are above its square.
 use Prim.Native.Nat.{_-_, _*_, _^_}
 use mathlib.Core.Logic.{⊎-elim}
 use native.Mathlib.Omega.{arith}

@@ -1,3 +1,4 @@
+-- `excess`: q * q in two parts of 52 digits, and its distance from m * 2^52 where that is small.
 use Prim.Native.Nat.{_*_}
 use native.Mathlib.Omega.{arith}
 use Rattle.root.proofs.Parts.{small, two-parts, above}

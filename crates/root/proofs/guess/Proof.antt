@@ -1,3 +1,4 @@
+-- `guess`: the patterns are numbers, and the result lies below 2^54; that it is near a root is not proved.
 use Prim.Native.Nat.{_-_, _/_}
 use native.Mathlib.Omega.{arith}
 use Rattle.rounding.proofs.Pattern.{number-pattern}

@@ -1,3 +1,4 @@
+-- `root`: a number above zero, infinity, a zero with its sign, and NaN for the others.
 use mathlib.Core.Path.{_≡_, sym, ap, _∙_, subst}
 use Prim.Native.Nat.{ℕ, _<_, _≤_}
 use lib.Dec.{T}

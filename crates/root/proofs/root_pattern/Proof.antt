@@ -1,3 +1,4 @@
+-- `root_pattern`: a number, or a subnormal one moved up, is sig * 2^(ex - 2098).
 use mathlib.Core.Path.{sym, ap, _∙_}
 use mathlib.Core.Logic.{⊎-elim}
 use native.Mathlib.Omega.{arith}

@@ -1,3 +1,4 @@
+-- `root_scaled`: m has at most 54 digits, and its nearest root with half the exponent is the pattern.
 use mathlib.Core.Path.{sym, ap, _∙_}
 use Prim.Native.Nat.{ℕ, _+_, _-_, _*_, _/_, _%_, _^_, _≤_, _<_}
 use native.Mathlib.Omega.{arith}

@@ -1,3 +1,4 @@
+-- `settled`: q or q + 1 is the nearest root where the excess says so; else the digits give it.
 use Prim.Native.Nat.{_*_, _^_}
 use native.Mathlib.Omega.{arith}
 use Rattle.root.proofs.Parts.{settled-same, settled-next}

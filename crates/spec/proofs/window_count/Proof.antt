@@ -1,3 +1,4 @@
+-- `window_count`: the loop holds a power of k up to 256, and stops at the first above.
 use mathlib.Core.Path.{_≡_}
 use Prim.Native.Nat.{suc, _-_, _^_, _≤_}
 use native.Mathlib.Nat.{pow-suc, mul-le-mul}
@@ -33,10 +34,16 @@ loop-again : tie.Need-loop-again Inv-loop μ-loop
 loop-again c = (omega arith, rw (add-one, pow-suc, ← c .before .before .loop .inv .1), c .if3 .left)
 
 returns-4 : tie.Need-returns-4 Inv-loop μ-loop
-returns-4 c = let e : c .before .before .loop .i ≡ c .before .before .before .before .before .args .order = omega arith in wide _ _ (omega arith) (rw (← rw e at (c .before .before .loop .inv .1)) (c .before .before .loop .inv .2)) (c .if4 .taken)
+returns-4 c =
+    let at = c .before .before in
+    let e : at .loop .i ≡ at .before .before .before .args .order = omega arith in
+    wide _ _ (omega arith) (rw (← rw e at (at .loop .inv .1)) (at .loop .inv .2)) (c .if4 .taken)
 
 returns-5 : tie.Need-returns-5 Inv-loop μ-loop
-returns-5 c = let e : c .before .before .loop .i ≡ c .before .before .before .before .before .args .order = omega arith in fits _ _ _ (omega arith) (rw e at (c .before .before .loop .inv .1)) (c .before .before .loop .inv .2) (c .if4 .left)
+returns-5 c =
+    let at = c .before .before in
+    let e : at .loop .i ≡ at .before .before .before .args .order = omega arith in
+    fits _ _ _ (omega arith) (rw e at (at .loop .inv .1)) (at .loop .inv .2) (c .if4 .left)
 
 pub window-count-spec : {M : Type 1} → statement M
 window-count-spec =

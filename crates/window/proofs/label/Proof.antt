@@ -1,3 +1,4 @@
+-- `label`: digit l of a to the base k.
 use native.Mathlib.Omega.{arith}
 use borrow.Author.Needs.{needs}
 use Rattle.window.proofs.Given.{order-small, power-positive, label-is}

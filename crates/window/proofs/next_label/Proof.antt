@@ -1,3 +1,4 @@
+-- `next_label`: the next label, or 0 after the last.
 use native.Mathlib.Omega.{arith}
 use borrow.Author.Needs.{needs}
 use Rattle.window.proofs.Round.{label-next, label-round}

@@ -1,3 +1,4 @@
+-- `powers`: so far the powers up to l, none above 256.
 use Prim.Native.Nat.{_+_, _-_, _*_, _^_, _≤_}
 use mathlib.Core.Path.{_≡_, sym}
 use native.Mathlib.Nat.{pow-zero}

@@ -1,3 +1,4 @@
+-- `predecessor`: the newest label is cut off, x stands last.
 use native.Mathlib.Omega.{arith}
 use borrow.Author.Needs.{needs}
 use Rattle.window.proofs.Given.{order-small, predecessor-is, predecessor-small}

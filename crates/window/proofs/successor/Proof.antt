@@ -1,3 +1,4 @@
+-- `successor`: the oldest label is cut off, the others move up, r stands first.
 use native.Mathlib.Omega.{arith}
 use Rattle.window.proofs.Given.{order-small, power-positive, successor-is, successor-small}
 use Rattle.window.proofs.successor.Statement.{statement}

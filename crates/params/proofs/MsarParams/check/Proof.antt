@@ -1,3 +1,4 @@
+-- `MsarParams::check`: the counts first, then the four parts, one before another.
 use native.Mathlib.Omega.{arith}
 use borrow.Author.Needs.{needs}
 use Rattle.params.proofs.Order.{few, many, long, Sized, in-parts}
@@ -17,7 +18,19 @@ returns-3 : tie.Need-returns-3
 returns-3 c = long _ (c .before .before .before .before .if1 .left) (c .before .before .if2 .left) (c .if3 .taken)
 
 returns-4 : tie.Need-returns-4
-returns-4 c = rw (in-parts _ (sized (c .before .before .before .before .before .before .before)), ← c .before .before .before .before .before .before .means .ensures, ← c .before .before .before .before .before .transition .ensures, ← c .before .before .before .before .ar .ensures, ← c .before .before .before .variances .ensures, ← c .before .before .first-of .ensures, ← c .before .first-of2 .ensures) (c .first-of3 .ensures)
+returns-4 c =
+    let last = c .before .before .before in
+    let part = last .before .before .before in
+    rw (
+      in-parts _ (sized (part .before)),
+      ← part .means .ensures,
+      ← last .before .before .transition .ensures,
+      ← last .before .ar .ensures,
+      ← last .variances .ensures,
+      ← c .before .before .first-of .ensures,
+      ← c .before .first-of2 .ensures,
+    )
+    (c .first-of3 .ensures)
 
 pub check-spec : {M : Type 1} → statement M
 check-spec =

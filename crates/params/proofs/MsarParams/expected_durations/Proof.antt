@@ -1,3 +1,4 @@
+-- `expected_durations`: the durations where the checks pass, else zeros beside the refusal.
 use mathlib.Core.Path.{sym, _∙_}
 use borrow.Author.Needs.{needs}
 use Rattle.params.specs.Durations.{durationsOf}

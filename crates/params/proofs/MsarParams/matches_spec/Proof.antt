@@ -1,3 +1,4 @@
+-- `matches_spec`: the four comparisons of the definition.
 use borrow.Author.Needs.{needs}
 use Rattle.params.specs.Parameters.{matchesSpec}
 use Rattle.params.proofs.MsarParams.matches_spec.Statement.{statement}

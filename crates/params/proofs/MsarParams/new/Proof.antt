@@ -1,3 +1,4 @@
+-- `MsarParams::new`: the record tidied where the checks pass, else zeros beside the refusal.
 use mathlib.Core.Path.{sym, _∙_}
 use borrow.Author.Needs.{needs}
 use Rattle.params.specs.Built.{builtOf}

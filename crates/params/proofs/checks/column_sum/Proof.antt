@@ -1,3 +1,4 @@
+-- `column_sum`: so far the sum of i entries of column j.
 use mathlib.Core.Path.{_≡_}
 use Prim.Native.Nat.{_-_, _≤_}
 use native.Mathlib.Omega.{arith}

@@ -1,12 +1,14 @@
-use mathlib.Core.Path.{_≡_, sym}
+-- `columns`: 14 at the first column whose sum is too far from one, or none.
+use mathlib.Core.Path.{_≡_, sym, _∙_}
+use lib.Ieee.{lt}
 use Prim.Native.Nat.{_-_, _≤_}
 use native.Mathlib.Omega.{arith}
 use borrow.Author.Needs.{needs}
 use Rattle.refusal.proofs.Each.{each-none, each-more, each-found}
 use Rattle.refusal.specs.declared.Refusal.the-variants.{Column}
-use Rattle.refusal.specs.declared.Check.the-variants.{Passed, Failed}
-use Rattle.refusal.specs.Checks.{each}
-use Rattle.params.specs.Checks.{columnCheck}
+use Rattle.refusal.specs.declared.Check.the-variants.{Passed}
+use Rattle.refusal.specs.Checks.{each, _when_}
+use Rattle.params.specs.Checks.{slack, columnCheck}
 use Rattle.params.proofs.checks.columns.Statement.{statement}
 use Rattle.params.proofs.checks.columns.Tie as tie
 
@@ -19,13 +21,18 @@ abbrev μ-loop : tie.MeasureT-loop
 loop-holds : tie.Need-loop-holds Inv-loop μ-loop
 loop-holds c = (omega arith, each-none _)
 
-returns : tie.Need-returns Inv-loop μ-loop
+-- the check of the column that is at hand
+check-is : (c : tie.After-magnitude Inv-loop μ-loop) → let at = c .before .before .before in columnCheck (at .before .args .q) (at .loop .j) ≡ (Column (at .loop .j) (c .before .column-sum .result) when lt slack (c .magnitude .result))
 unfolding columnCheck
-returns c = let e : columnCheck (c .before .before .before .before .before .args .q) (c .before .before .before .before .loop .j) ≡ Failed (Column (c .before .before .before .before .loop .j) (c .before .before .column-sum .result)) = rw (← c .before .before .column-sum .ensures, ← c .before .magnitude .ensures, c .if1 .taken) in sym (each-found _ _ (c .before .before .before .before .loop .inv .1) _ (c .before .before .before .loop-test .taken) e)
+check-is c = rw (← c .before .column-sum .ensures, ← c .magnitude .ensures)
+
+returns : tie.Need-returns Inv-loop μ-loop
+returns c =
+    let at = c .before .before .before .before in
+    sym (each-found _ _ (at .loop .inv .1) _ (c .before .before .before .loop-test .taken) (check-is (c .before) ∙ rw (c .if1 .taken)))
 
 loop-again : tie.Need-loop-again Inv-loop μ-loop
-unfolding columnCheck
-loop-again c = let e : columnCheck (c .before .before .before .before .before .args .q) (c .before .before .before .before .loop .j) ≡ Passed = rw (← c .before .before .column-sum .ensures, ← c .before .magnitude .ensures, c .if1 .left) in (omega arith, each-more _ _ (c .before .before .before .before .loop .inv .1) e)
+loop-again c = let at = c .before .before .before .before in (omega arith, each-more _ _ (at .loop .inv .1) (check-is (c .before) ∙ rw (c .if1 .left)))
 
 returns-2 : tie.Need-returns-2 Inv-loop μ-loop
 returns-2 c = let e : c .before .loop .j ≡ c .before .before .args .q .«means_count» = omega arith in sym (rw e at (c .before .loop .inv .1))

@@ -1,3 +1,4 @@
+-- `step`: row i, column j lies within the table.
 use Prim.Native.Nat.{_+_, _*_, _<_}
 use native.Mathlib.Omega.{arith}
 use borrow.Author.Needs.{needs}

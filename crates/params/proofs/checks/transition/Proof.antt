@@ -1,3 +1,4 @@
+-- `transition`: 12 where the length is wrong, else the entries before the columns.
 use native.Mathlib.Nat.{mul-le-mul}
 use native.Mathlib.Omega.{arith}
 use borrow.Author.Tests.{eq-eqb, ne-eqb}

@@ -1,3 +1,4 @@
+-- `variances`: 12 where their count is wrong, else each variance.
 use borrow.Author.Needs.{needs}
 use Rattle.params.proofs.Tests.{at-most}
 use Rattle.params.proofs.checks.variances.Statement.{statement}

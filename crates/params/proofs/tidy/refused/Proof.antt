@@ -1,3 +1,4 @@
+-- `tidy::refused`: zeros beside the refusal.
 use lib.Ieee.{ofBits}
 use mathlib.Core.Path.{refl}
 use Rattle.params.specs.Built.{nothing}
