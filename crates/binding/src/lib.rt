@@ -12,6 +12,7 @@ ghost use Rattle.refusal.specs.declared.Refusal.the-variants.{Shape};
 ghost use Rattle.spec.specs.declared.MsarSpec.{MsarSpec};
 ghost use Rattle.params.specs.Parameters.{matchesSpec};
 ghost use Rattle.binding.specs.Binding.{readingsCheck, lengthCheck, boundAfter, boundOf, memoryCheck, paramsCheck};
+use number::Test;
 use params::MsarParams;
 use refusal::Check;
 use refusal::Refusal;
@@ -31,11 +32,9 @@ fn readings(y: &[f64]) -> Check
     ensures { λ r. ⌜ r ≡ readingsCheck (now (y .entry)) ⌝ }
 {
     let n = y.len();
-    for i in 0..n {
-        let x = y[i];
-        if !number::is_finite(x) {
-            return Check::Failed(Refusal::Reading(i));
-        }
+    let i = number::first_failing(Test::Finite, y, n);
+    if i < n {
+        return Check::Failed(Refusal::Reading(i));
     }
     Check::Passed
 }

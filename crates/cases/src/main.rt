@@ -239,7 +239,7 @@ fn sum_of(row: &[f64; 256]) -> f64
 {
     let mut work = [0.0; 6];
     let mut table = [0.0; 1];
-    rows::store(row, 3, &mut work, 3);
+    number::copy(row, 3, &mut work, 3);
     rows::tabulate(&work, 1, 3, 3, 1, &mut table);
     table[0]
 }
@@ -273,7 +273,7 @@ fn p8() -> bool
     filter::divide(&mut row, total, 3);
     let mut work = [0.0; 6];
     let mut table = [0.0; 3];
-    rows::store(&row, 3, &mut work, 3);
+    number::copy(&row, 3, &mut work, 3);
     rows::tabulate(&work, 3, 1, 3, 1, &mut table);
     let exact = in_units(table[0]) + in_units(table[1]) + in_units(table[2]);
     (exact == 0x3F_FFFF_FFFF_FFFF) & (exact <= ONE + ALLOWED) & (ONE <= exact + ALLOWED)

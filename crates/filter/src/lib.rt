@@ -91,8 +91,8 @@ fn keep(
     requires { ⌜ (m ≤ 256) × (i < n) × (2 * (n * m) ≤ length (now work)) ⌝ }
     ensures { λ _. ⌜ now (work .exit) ≡ fillAt (n * m + i * m) (λ a. now (predicted .entry) ! a) m (fillAt (i * m) (λ a. now (filtered .entry) ! a) m (now (work .entry))) ⌝ }
 {
-    rows::store(filtered, m, work, i * m);
-    rows::store(predicted, m, work, n * m + i * m);
+    number::copy(filtered, m, work, i * m);
+    number::copy(predicted, m, work, n * m + i * m);
 }
 
 // Row i is done: its weights are divided, kept with its prediction, and give the prediction of the next row.

@@ -20,18 +20,16 @@ use Rattle.params.specs.declared.Built.{Built}
 use Rattle.params.specs.Checks.{parameterCheck}
 use Rattle.params.specs.Built.{tidy, nothing}
 use Rattle.params.proofs.Within.{within}
-use Rattle.refusal.specs.Checks.{_when_}
+use Rattle.refusal.specs.Checks.{_before_, _when_}
 use Rattle.refusal.proofs.Checks.{both, untrue}
 use Rattle.rows.specs.Rows.{windowsOf}
-use Rattle.binding.specs.Binding.{workNeed, paramsCheck, admittedCheck}
+use Rattle.binding.specs.Binding.{boundOf, memoryCheck, workNeed, tableNeed, paramsCheck, admittedCheck}
 use Rattle.binding.specs.declared.Bound.{Bound}
-use Rattle.binding.specs.declared.Tables.the-variants.{One}
 use Rattle.em_sample_variance.specs.Series.{sampleVariance}
 use Rattle.em_ridge.specs.Ridge.{small}
-use Rattle.filter.specs.Filter.{runCheck, loglikOf, answerAfter, answerOf}
+use Rattle.filter.specs.Filter.{answerAfter}
 use Rattle.filter.specs.declared.Answer.{Answer}
-use Rattle.calls.specs.Calls.{cleared, smoothedTable}
-use Rattle.calls.proofs.Runs.{rows-fit}
+use Rattle.calls.specs.Calls.{runCheck, runLoglik, runAnswer, cleared, smoothedTable}
 use Rattle.calls.proofs.Admitted.{Admitted}
 use Rattle.em_step.specs.Ready.{Ready}
 use Rattle.em_step.proofs.Kept.{Alike, Good, windows-alike, still-ready}
@@ -47,15 +45,15 @@ use Rattle.fit.proofs.Going.{Kept, passes-kept}
 
 -- ---- the closing pass
 
-module _ (y : List Float) (q : MsarParams) (i : ℕ) (c : Bool) {a : Answer} (answer : a ≡ answerOf q y) where
+module _ (y : List Float) (q : MsarParams) (i : ℕ) (c : Bool) {a : Answer} (answer : a ≡ runAnswer q y) where
   loglik-after : (d : Check) (loglik : Float) → fittedAfter (answerAfter d loglik .check) q (answerAfter d loglik .loglik) i c ≡ fittedAfter d q loglik i c
   loglik-after Passed loglik = refl
   loglik-after (Failed r) loglik = refl
 
   -- what is made of its answer
   pub closing-is : {f : Fitted} → f ≡ fittedAfter (a .check) q (a .loglik) i c → f ≡ closed y q i c
-  unfolding closed answerOf
-  closing-is e = e ∙ ap (λ (x : Answer). fittedAfter (x .check) q (x .loglik) i c) answer ∙ loglik-after (runCheck q y) (loglikOf q y)
+  unfolding closed runAnswer
+  closing-is e = e ∙ ap (λ (x : Answer). fittedAfter (x .check) q (x .loglik) i c) answer ∙ loglik-after (runCheck q y) (runLoglik q y)
 
 module _ (a : Answer) (q : MsarParams) (i : ℕ) (c : Bool) {f : Fitted} where
   pub ended-passed : a .check ≡ Passed → f ≡ fittedAfter Passed q (a .loglik) i c → f ≡ fittedAfter (a .check) q (a .loglik) i c
@@ -184,44 +182,48 @@ has-lags q y e = go (p q) (eqb-false _ _ (untrue _ _ (both (OrderZero when p q =
     go zero h = absurd (h refl)
     go (suc n) h = omega arith
 
-pub params-checked : {S : MsarSpec} {y : List Float} {q : MsarParams} {lent room : ℕ} {b : Bound} → Admitted S y q lent (One room) b → parameterCheck q ≡ Passed
-unfolding paramsCheck
-params-checked {q = q} a = both (parameterCheck q) (a .params-pass) .0
-
 -- what the passes are handed, by a call that was admitted and passed 24 and 25
-pub fit-ready : {S : MsarSpec} {y : List Float} {q : MsarParams} {lent room : ℕ} {b : Bound} {floor : Float} → Admitted S y q lent (One room) b → fitCheck q y ≡ Passed
-    → floor ≡ small ⊗ sampleVariance y → Ready q y floor (b .power) (b .rows) lent
-fit-ready {q = q} {lent} {b = b} a e f =
-    let w = within q (params-checked a) in
-    let f₂ = rows-fit (b .rows) (b .windows) in
-    record {
-      shape = a .shape;
-      floor-is = f;
-      lagged = has-lags q _ e;
-      power-is = a .power-is;
-      rows-are = a .rows-are;
-      short = a .short;
-      fits = subst (λ (x : ℕ). 2 * b .rows * x ≤ lent) (a .windows-are) (omega (arith, f₂, a .work-fits));
-      blocks = w .blocks;
-      variances = w .variances;
-    }
+module _ {S : MsarSpec} {y : List Float} {b : Bound} {e : b ≡ boundOf S y} {q : MsarParams} {own : Check} (a : Admitted S y e q own) where
+  pub params-checked : parameterCheck q ≡ Passed
+  unfolding paramsCheck
+  params-checked = both (parameterCheck q) (a .params-pass) .0
+
+  pub fit-ready : (lent : ℕ) {floor : Float} → workNeed S y ≤ lent → fitCheck q y ≡ Passed → floor ≡ small ⊗ sampleVariance y
+      → Ready q y floor (b .power) (b .rows) lent
+  fit-ready lent l passed f =
+      let w = within q params-checked in
+      record {
+        shape = a .shape;
+        floor-is = f;
+        lagged = has-lags q y passed;
+        power-is = a .power-is;
+        rows-are = a .rows-of;
+        short = a .short;
+        fits = subst (λ (x : ℕ). b .rows * x ≤ lent) (a .windows-of) (omega (arith, a .need-is, l));
+        blocks = w .blocks;
+        variances = w .variances;
+      }
 
 -- ---- the outcome of the call
 
-module _ (S : MsarSpec) (y : List Float) (start : MsarParams) (max : ℕ) (tol : Float) (work smoothed : List Float) {a : Fitted} where
-  module _ {r : Refusal} (refused : a ≡ fittedAfter (Failed r) start zero⁺ 0 false) where
-    pub fit-refused : admittedCheck S y start (length work) (One (length smoothed)) ≡ Failed r
-        → record { answer = a; work = work; smoothed = smoothed } ≡ fitCall S y start max tol work smoothed
-    unfolding fitCall
-    fit-refused e = rw (e, refused)
+module _ (S : MsarSpec) (y : List Float) (start : MsarParams) (max : ℕ) (tol : Float) (work smoothed : List Float) where
+  -- what it checks of its own
+  abbrev pub fitOwn : Check
+  fitOwn = memoryCheck (length work) (workNeed S y) before memoryCheck (length smoothed) (tableNeed S y)
 
-    pub fit-refused-later : admittedCheck S y start (length work) (One (length smoothed)) ≡ Passed → fitCheck start y ≡ Failed r
-        → record { answer = a; work = work; smoothed = smoothed } ≡ fitCall S y start max tol work smoothed
-    unfolding fitCall
-    fit-refused-later e d = rw (e, d, refused)
+  module _ {a : Fitted} where
+    module _ {r : Refusal} (refused : a ≡ fittedAfter (Failed r) start zero⁺ 0 false) where
+      pub fit-refused : admittedCheck S y fitOwn start ≡ Failed r → record { answer = a; work = work; smoothed = smoothed } ≡ fitCall S y start max tol work smoothed
+      unfolding fitCall
+      fit-refused e = rw (e, refused)
 
-  pub fit-ran : {need : ℕ} {w t : List Float} → a ≡ fittedOf y tol max start → need ≡ workNeed S y → w ≡ cleared need work
-      → t ≡ fittedTable y tol max start smoothed → admittedCheck S y start (length work) (One (length smoothed)) ≡ Passed → fitCheck start y ≡ Passed
-      → record { answer = a; work = w; smoothed = t } ≡ fitCall S y start max tol work smoothed
-  unfolding fitCall
-  fit-ran answer needed ran table e d = rw (e, d, answer, ran, needed, table)
+      pub fit-refused-later : admittedCheck S y fitOwn start ≡ Passed → fitCheck start y ≡ Failed r
+          → record { answer = a; work = work; smoothed = smoothed } ≡ fitCall S y start max tol work smoothed
+      unfolding fitCall
+      fit-refused-later e d = rw (e, d, refused)
+
+    pub fit-ran : {need : ℕ} {w t : List Float} → a ≡ fittedOf y tol max start → need ≡ workNeed S y → w ≡ cleared need work
+        → t ≡ fittedTable y tol max start smoothed → admittedCheck S y fitOwn start ≡ Passed → fitCheck start y ≡ Passed
+        → record { answer = a; work = w; smoothed = t } ≡ fitCall S y start max tol work smoothed
+    unfolding fitCall
+    fit-ran answer needed ran table e d = rw (e, d, answer, ran, needed, table)

@@ -18,12 +18,13 @@ use Rattle.params.specs.declared.MsarParams.{MsarParams}
 use Rattle.params.specs.declared.Built.{Built}
 use Rattle.rows.specs.Rows.{Same, windowsOf}
 use Rattle.rows.specs.Memory.{predictedFrom, filteredFrom}
-use Rattle.filter.specs.Filter.{predictedRow, filteredRow, rowCount, startShares, runCheck, loglikOf, answerAfter, answerOf}
+use Rattle.stationary.specs.Stationary.{startShares}
+use Rattle.filter.specs.Filter.{predictedRow, filteredRow, rowCount, answerAfter}
 use Rattle.filter.specs.Steps.{Held}
 use Rattle.filter.specs.declared.Answer.{Answer}
-use Rattle.smoother.specs.Smoother.{smoothedRow}
 use Rattle.smoother.specs.InMemory.{SmoothedRows}
-use Rattle.calls.proofs.Runs.{run-says}
+use Rattle.calls.specs.Calls.{runCheck, runLoglik, runAnswer, smoothedFrom}
+use Rattle.calls.proofs.Runs.{run-says, drop-more}
 use Rattle.em_step.specs.Step.{stepOf}
 use Rattle.em_step.specs.Ready.{Ready}
 use Rattle.em_step.proofs.Kept.{step-same}
@@ -40,14 +41,14 @@ loglik-said : (c : Check) (loglik : Float) → answerAfter c loglik .check ≡ P
 loglik-said Passed loglik e = refl
 loglik-said (Failed r) loglik e = cc
 
-module _ (q : MsarParams) (y : List Float) {a : Answer} (answer : a ≡ answerOf q y) where
-  pub loglik-is : a .check ≡ Passed → a .loglik ≡ loglikOf q y
-  unfolding answerOf
-  loglik-is e = ap (λ (x : Answer). x .loglik) answer ∙ loglik-said (runCheck q y) (loglikOf q y) (sym (ap (λ (x : Answer). x .check) answer) ∙ e)
+module _ (q : MsarParams) (y : List Float) {a : Answer} (answer : a ≡ runAnswer q y) where
+  pub loglik-is : a .check ≡ Passed → a .loglik ≡ runLoglik q y
+  unfolding runAnswer
+  loglik-is e = ap (λ (x : Answer). x .loglik) answer ∙ loglik-said (runCheck q y) (runLoglik q y) (sym (ap (λ (x : Answer). x .check) answer) ∙ e)
 
 -- ---- the verdict
 
-module _ (y : List Float) (tol : Float) (i : ℕ) (q : MsarParams) (last : Float) {a : Answer} (answer : a ≡ answerOf q y) {v : Verdict} where
+module _ (y : List Float) (tol : Float) (i : ℕ) (q : MsarParams) (last : Float) {a : Answer} (answer : a ≡ runAnswer q y) {v : Verdict} where
   pub run-refused : {r : Refusal} → a .check ≡ Failed r → v ≡ record { course = Refused r; loglik = zero⁺ } → v ≡ verdictOf y tol i q last
   unfolding verdictOf
   run-refused d e = rw (run-says q y answer d) e
@@ -117,22 +118,35 @@ module _ (q : MsarParams) (last : Float) (i : ℕ) (loglik : Float) (new : Built
   by-step Passed false e d = rw d refl
 
 module _ (y : List Float) (tol : Float) (i : ℕ) (q : MsarParams) (last : Float) {v : Verdict} (verdict : v ≡ verdictOf y tol i q last) where
+  -- the check before the stop rule, the stop rule, and the step
+  abbrev check : Check
+  check = runCheck q y before Loglike when not (finite (runLoglik q y))
+
+  abbrev stop : Bool
+  stop = stops tol i last (runLoglik q y)
+
+  abbrev stepped : Built
+  stepped = stepOf y (rowCount q y) (smoothedRows q y) q
+
+  course-is : {c : Course} → v .course ≡ c → verdictOf y tol i q last .course ≡ c
+  course-is e = sym (ap (λ (x : Verdict). x .course) verdict) ∙ e
+
   pub pass-converged : {n : ℕ} → v .course ≡ Converged n → record { course = Converged n; params = q; loglik = v .loglik } ≡ passOf y tol i q last
   unfolding verdictOf passOf
-  pass-converged {n} e = ap (λ (x : Verdict). record { course = Converged n; params = q; loglik = x .loglik }) verdict ∙ by-converged q last i (loglikOf q y) (stepOf y (rowCount q y) (smoothedRows q y) q) (runCheck q y before Loglike when not (finite (loglikOf q y))) (stops tol i last (loglikOf q y)) (sym (ap (λ (x : Verdict). x .course) verdict) ∙ e)
+  pass-converged {n} e = ap (λ (x : Verdict). record { course = Converged n; params = q; loglik = x .loglik }) verdict ∙ by-converged q last i (runLoglik q y) stepped check stop (course-is e)
 
   pub pass-refused : {r : Refusal} → v .course ≡ Refused r → record { course = Refused r; params = q; loglik = last } ≡ passOf y tol i q last
   unfolding verdictOf passOf
-  pass-refused e = by-refused q last i (loglikOf q y) (stepOf y (rowCount q y) (smoothedRows q y) q) (runCheck q y before Loglike when not (finite (loglikOf q y))) (stops tol i last (loglikOf q y)) (sym (ap (λ (x : Verdict). x .course) verdict) ∙ e)
+  pass-refused e = by-refused q last i (runLoglik q y) stepped check stop (course-is e)
 
-  module _ {new : Built} (step : new ≡ stepOf y (rowCount q y) (smoothedRows q y) q) (going : v .course ≡ Going) where
+  module _ {new : Built} (step : new ≡ stepped) (going : v .course ≡ Going) where
     pub pass-step-refused : {r : Refusal} → new .check ≡ Failed r → record { course = Refused r; params = q; loglik = last } ≡ passOf y tol i q last
     unfolding verdictOf passOf
-    pass-step-refused d = by-step-refused q last i (loglikOf q y) (stepOf y (rowCount q y) (smoothedRows q y) q) (runCheck q y before Loglike when not (finite (loglikOf q y))) (stops tol i last (loglikOf q y)) (sym (ap (λ (x : Verdict). x .course) verdict) ∙ going) (sym (ap (λ (x : Built). x .check) step) ∙ d)
+    pass-step-refused d = by-step-refused q last i (runLoglik q y) stepped check stop (course-is going) (sym (ap (λ (x : Built). x .check) step) ∙ d)
 
     pub pass-stepped : new .check ≡ Passed → record { course = Going; params = new .params; loglik = v .loglik } ≡ passOf y tol i q last
     unfolding verdictOf passOf
-    pass-stepped d = ap (λ (x : Built). record { course = Going; params = x .params; loglik = v .loglik }) step ∙ ap (λ (x : Verdict). record { course = Going; params = (stepOf y (rowCount q y) (smoothedRows q y) q) .params; loglik = x .loglik }) verdict ∙ by-step q last i (loglikOf q y) (stepOf y (rowCount q y) (smoothedRows q y) q) (runCheck q y before Loglike when not (finite (loglikOf q y))) (stops tol i last (loglikOf q y)) (sym (ap (λ (x : Verdict). x .course) verdict) ∙ going) (sym (ap (λ (x : Built). x .check) step) ∙ d)
+    pass-stepped d = ap (λ (x : Built). record { course = Going; params = x .params; loglik = v .loglik }) step ∙ ap (λ (x : Verdict). record { course = Going; params = stepped .params; loglik = x .loglik }) verdict ∙ by-step q last i (runLoglik q y) stepped check stop (course-is going) (sym (ap (λ (x : Built). x .check) step) ∙ d)
 
 -- ---- memory, after the filter and the smoother
 
@@ -141,23 +155,30 @@ pub ready-long : {q : MsarParams} {y : List Float} {floor : Float} {power n lent
 ready-long {q} {y} {floor} {power} {n} e r = subst (λ (x : ℕ). Ready q y floor power n x) (sym e) r
 
 pub rest-kept : (q : MsarParams) (m n : ℕ) (work ran after : List Float) → m ≡ windowsOf q → SmoothedRows q n ran after
-    → drop (2 * n * m) ran ≡ drop (2 * n * m) work → drop (2 * n * m) after ≡ drop (2 * n * m) work
-rest-kept q m n work ran after e done d = subst (λ (x : ℕ). drop (2 * n * x) after ≡ drop (2 * n * x) ran) (sym e) (done .rest) ∙ d
+    → drop (2 * (n * m)) ran ≡ drop (2 * (n * m)) work → drop (2 * (n * m)) after ≡ drop (2 * (n * m)) work
+rest-kept q m n work ran after e done d =
+    drop-more (n * m) (2 * (n * m)) after ran (omega arith) (subst (λ (x : ℕ). drop (n * x) after ≡ drop (n * x) ran) (sym e) (done .rest)) ∙ d
 
 -- ---- the step reads the smoothed rows in memory
 
 module _ (q : MsarParams) (y : List Float) (floor : Float) (power m n lent : ℕ) (ready : Ready q y floor power n lent) (windows : m ≡ windowsOf q)
-    (work after : List Float) (held : Held q y (startShares q) m n work) (done : SmoothedRows q n work after) where
+    (work after : List Float) (held : Held q y (startShares q .values) n m n work) (done : SmoothedRows q n work after) where
+  abbrev predicted : ℕ → List Float
+  predicted = predictedRow q y (startShares q .values)
+
+  abbrev filtered : ℕ → List Float
+  filtered = filteredRow q y (startShares q .values)
+
   counted : n ≡ rowCount q y
   counted = omega (arith, ready .rows-are)
 
   smoothed-stand : (i : ℕ) → i < n → Same (windowsOf q) (drop (filteredFrom (windowsOf q) i) after) (smoothedRows q y i)
   unfolding smoothedRows
   smoothed-stand i h =
-      subst (λ (x : ℕ). Same (windowsOf q) (drop (filteredFrom (windowsOf q) i) after) (smoothedRow q (predictedRow q y (startShares q)) (filteredRow q y (startShares q)) (x - 1 - i) i)) counted
-      (done .rows (predictedRow q y (startShares q)) (filteredRow q y (startShares q))
-      (λ j l. subst (λ (x : ℕ). Same x (drop (predictedFrom x j) work) (predictedRow q y (startShares q) j)) windows (held .predicted j l))
-      (λ j l. subst (λ (x : ℕ). Same x (drop (filteredFrom x j) work) (filteredRow q y (startShares q) j)) windows (held .filtered j l)) i h)
+      subst (λ (x : ℕ). Same (windowsOf q) (drop (filteredFrom (windowsOf q) i) after) (smoothedFrom q y (startShares q .values) x i)) counted
+      (done .rows predicted filtered
+      (λ j l. subst (λ (x : ℕ). Same x (drop (predictedFrom n x j) work) (predicted j)) windows (held .predicted j l))
+      (λ j l. subst (λ (x : ℕ). Same x (drop (filteredFrom x j) work) (filtered j)) windows (held .filtered j l)) i h)
 
   pub step-is : {new : Built} → new ≡ stepOf y n (λ i. drop (filteredFrom (windowsOf q) i) after) q → new ≡ stepOf y (rowCount q y) (smoothedRows q y) q
   step-is e =

@@ -13,8 +13,7 @@ use Rattle.refusal.specs.declared.Refusal.the-variants.{OrderZero, SampleVarian
 use Rattle.spec.specs.declared.MsarSpec.{MsarSpec}
 use Rattle.params.specs.declared.MsarParams.{MsarParams}
 use Rattle.params.specs.Parameters.{p}
-use Rattle.binding.specs.Binding.{admittedCheck, workNeed}
-use Rattle.binding.specs.declared.Tables.the-variants.{One}
+use Rattle.binding.specs.Binding.{admittedCheck, memoryCheck, workNeed, tableNeed}
 use Rattle.em_sample_variance.specs.Series.{sampleVariance}
 use Rattle.calls.specs.Calls.{cleared, smoothedTable}
 use Rattle.fit.specs.declared.Course.{Course}
@@ -47,7 +46,13 @@ fitCalled Passed q work smoothed run = run
 
 unfoldable pub fitCall : MsarSpec → List Float → MsarParams → ℕ → Float → List Float → List Float → FitOutcome
 fitCall S y start maxIter tol work smoothed =
-    fitCalled (admittedCheck S y start (length work) (One (length smoothed)) before fitCheck start y) start work smoothed
+    fitCalled
+    (admittedCheck S y
+    (memoryCheck (length work) (workNeed S y)
+    before memoryCheck (length smoothed) (tableNeed S y))
+    start
+    before fitCheck start y)
+    start work smoothed
     (record {
       answer = fittedOf y tol maxIter start;
       work = cleared (workNeed S y) work;

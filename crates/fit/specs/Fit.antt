@@ -1,6 +1,6 @@
 -- The fit: EM passes from the start parameters until the log-likelihood gains no more than tol, or max_iter of them; then a closing pass at the
 -- parameters reached. After Dempster, Laird and Rubin (1977), Hamilton (1990), and document 01, "Fit"; model.rs, `fit`.
-use Prim.Native.Nat.{ℕ, zero, suc, _-_}
+use Prim.Native.Nat.{ℕ, zero, suc}
 use mathlib.Core.Bool.{Bool, true, false, not, _&&_}
 use mathlib.Core.List.{List}
 use lib.Ieee.{Float, le}
@@ -12,8 +12,9 @@ use Rattle.refusal.specs.declared.Check.the-variants.{Passed, Failed}
 use Rattle.refusal.specs.declared.Refusal.the-variants.{Loglike}
 use Rattle.params.specs.declared.MsarParams.{MsarParams}
 use Rattle.params.specs.Built.{tidy, nothing}
-use Rattle.filter.specs.Filter.{predictedRow, filteredRow, rowCount, startShares, runCheck, loglikOf}
-use Rattle.smoother.specs.Smoother.{smoothedRow}
+use Rattle.stationary.specs.Stationary.{startShares}
+use Rattle.filter.specs.Filter.{rowCount}
+use Rattle.calls.specs.Calls.{runCheck, runLoglik, smoothedFrom}
 use Rattle.em_step.specs.Step.{stepOf}
 use Rattle.fit.specs.declared.Course.{Course}
 use Rattle.fit.specs.declared.Course.the-variants.{Going, Converged, Refused}
@@ -22,9 +23,9 @@ use Rattle.fit.specs.declared.Fitted.{Fitted}
 
 -- ---- one pass
 
--- the smoothed rows at q: row i of n is followed by n - 1 - i rows
+-- the smoothed rows at q
 unfoldable pub smoothedRows : MsarParams → List Float → ℕ → List Float
-smoothedRows q y i = smoothedRow q (predictedRow q y (startShares q)) (filteredRow q y (startShares q)) (rowCount q y - 1 - i) i
+smoothedRows q y i = smoothedFrom q y (startShares q .values) (rowCount q y) i
 
 -- pass number i, from 0, converges: from the second on, where the gain is at most tol. A fall counts too, and a NaN tol never stops
 unfoldable pub stops : Float → ℕ → Float → Float → Bool
@@ -39,7 +40,7 @@ module _ (y : List Float) (tol : Float) where
   -- pass number i at q; the pass before had the log-likelihood `last`
   unfoldable pub passOf : ℕ → MsarParams → Float → State
   passOf i q last =
-      let loglik = loglikOf q y in
+      let loglik = runLoglik q y in
       let new = stepOf y (rowCount q y) (smoothedRows q y) q in
       reached q last (runCheck q y before Loglike when not (finite loglik))
       (if stops tol i last loglik
@@ -70,7 +71,7 @@ fittedAfter (Failed r) q loglik iterations converged =
 
 -- at the parameters reached
 unfoldable pub closed : List Float → MsarParams → ℕ → Bool → Fitted
-closed y q iterations converged = fittedAfter (runCheck q y) q (loglikOf q y) iterations converged
+closed y q iterations converged = fittedAfter (runCheck q y) q (runLoglik q y) iterations converged
 
 -- iterations are the passes begun, the stopping one among them
 abbrev pub endedAt : List Float → ℕ → MsarParams → Course → Fitted

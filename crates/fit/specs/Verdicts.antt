@@ -10,7 +10,7 @@ use Rattle.refusal.specs.declared.Check.{Check}
 use Rattle.refusal.specs.declared.Check.the-variants.{Passed, Failed}
 use Rattle.refusal.specs.declared.Refusal.the-variants.{Loglike}
 use Rattle.params.specs.declared.MsarParams.{MsarParams}
-use Rattle.filter.specs.Filter.{runCheck, loglikOf}
+use Rattle.calls.specs.Calls.{runCheck, runLoglik}
 use Rattle.fit.specs.declared.Course.{Course}
 use Rattle.fit.specs.declared.Course.the-variants.{Going, Converged, Refused}
 use Rattle.fit.specs.declared.Verdict.{Verdict}
@@ -23,7 +23,7 @@ verdictAfter (Failed r) v = record { course = Refused r; loglik = zero⁺ }
 
 unfoldable pub verdictOf : List Float → Float → ℕ → MsarParams → Float → Verdict
 verdictOf y tol i q last =
-    let loglik = loglikOf q y in
+    let loglik = runLoglik q y in
     verdictAfter (runCheck q y before Loglike when not (finite loglik))
     (record { course = if stops tol i last loglik then Converged (suc i) else Going; loglik = loglik })
 

@@ -16,20 +16,20 @@ ghost use Rattle.params.specs.Parameters.{k, p};
 ghost use Rattle.params.specs.Checks.{parameterCheck};
 ghost use Rattle.params.specs.Built.{tidy};
 ghost use Rattle.rows.specs.Rows.{windowsOf};
-ghost use Rattle.filter.specs.Filter.{startShares, answerOf};
+ghost use Rattle.stationary.specs.Stationary.{startShares};
 ghost use Rattle.filter.specs.Steps.{Held};
 ghost use Rattle.em_sample_variance.specs.Series.{sampleVariance};
-ghost use Rattle.calls.specs.Calls.{cleared, smoothedTable};
+ghost use Rattle.calls.specs.Calls.{runAnswer, cleared, smoothedTable};
 ghost use Rattle.em_step.specs.Ready.{Ready};
 ghost use Rattle.fit.specs.Fit.{stops, passesTo, fittedAfter, fittedOf};
 ghost use Rattle.fit.specs.Verdicts.{verdictAfter, verdictOf, endOf};
 ghost use Rattle.fit.specs.declared.Course.the-variants.{Going, Converged};
 ghost use Rattle.fit.specs.Calls.{fitCheck, fittedTable, fitCall};
-use binding::Tables;
 use filter::Answer;
 use params::MsarParams;
 use refusal::Check;
 use refusal::Refusal;
+use refusal::first_of;
 use spec::MsarSpec;
 
 const SMALL: f64 = 1e-12;
@@ -108,12 +108,12 @@ fn judge(
     work: &mut [f64],
 ) -> Verdict
     requires { ⌜ Shape (k q) (p q) ⌝ }
-    requires { ⌜ (m ≡ windowsOf q) × (power ≡ k q ^ p q) × (p q + n ≡ length (now y)) × (length (now y) ≤ 4096) × (2 * n * m ≤ length (now work)) × (i < 18446744073709551615) ⌝ }
+    requires { ⌜ (m ≡ windowsOf q) × (power ≡ k q ^ p q) × (p q + n ≡ length (now y)) × (length (now y) ≤ 4096) × (2 * (n * m) ≤ length (now work)) × (i < 18446744073709551615) ⌝ }
     ensures verdict { λ v. ⌜ v ≡ verdictOf (now (y .entry)) tol i q last ⌝ }
-    ensures rest { λ _. ⌜ (length (now (work .exit)) ≡ length (now (work .entry))) × (drop (2 * n * m) (now (work .exit)) ≡ drop (2 * n * m) (now (work .entry))) ⌝ }
-    ensures rows { λ v. ⌜ (v .course ≡ Going → Held q (now (y .entry)) (startShares q) m n (now (work .exit))) ⌝ }
+    ensures rest { λ _. ⌜ (length (now (work .exit)) ≡ length (now (work .entry))) × (drop (2 * (n * m)) (now (work .exit)) ≡ drop (2 * (n * m)) (now (work .entry))) ⌝ }
+    ensures rows { λ v. ⌜ (v .course ≡ Going → Held q (now (y .entry)) (startShares q .values) n m n (now (work .exit))) ⌝ }
 {
-    let answer = filter::run(q, power, m, y, n, work);
+    let answer = calls::run(q, power, m, y, n, work);
     let check = answer.check;
     if let Check::Failed(r) = check {
         return Verdict {
@@ -139,9 +139,9 @@ fn passes(
     work: &mut [f64],
 ) -> State
     requires { ⌜ Ready start (now y) floor power n (length (now work)) ⌝ }
-    requires { ⌜ (m ≡ windowsOf start) × (0 < n) × (parameterCheck start ≡ Passed) ⌝ }
+    requires { ⌜ (m ≡ windowsOf start) × (0 < n) × (parameterCheck start ≡ Passed) × (2 * (n * m) ≤ length (now work)) ⌝ }
     ensures state { λ s. ⌜ s ≡ passesTo (now (y .entry)) tol start «max_iter» ⌝ }
-    ensures rest { λ _. ⌜ (length (now (work .exit)) ≡ length (now (work .entry))) × (drop (2 * n * m) (now (work .exit)) ≡ drop (2 * n * m) (now (work .entry))) ⌝ }
+    ensures rest { λ _. ⌜ (length (now (work .exit)) ≡ length (now (work .entry))) × (drop (2 * (n * m)) (now (work .exit)) ≡ drop (2 * (n * m)) (now (work .entry))) ⌝ }
 {
     let mut q = start;
     let mut last = 0.0;
@@ -233,16 +233,15 @@ fn close(
 ) -> Answer
     requires { ⌜ Shape (k q) (p q) ⌝ }
     requires { ⌜ (m ≡ windowsOf q) × (power ≡ k q ^ p q) × (p q + n ≡ length (now y)) × (length (now y) ≤ 4096) × (3 * (n * m) ≤ length (now work)) × (n * k q ≤ length (now smoothed)) × (0 < n) ⌝ }
-    ensures answer { λ a. ⌜ a ≡ answerOf q (now (y .entry)) ⌝ }
+    ensures answer { λ a. ⌜ a ≡ runAnswer q (now (y .entry)) ⌝ }
     ensures work { λ _. ⌜ now (work .exit) ≡ cleared (3 * (n * m)) (now (work .entry)) ⌝ }
     ensures smoothed { λ _. ⌜ now (smoothed .exit) ≡ smoothedTable q (now (y .entry)) (now (smoothed .entry)) ⌝ }
 {
-    let answer = filter::run(q, power, m, y, n, work);
+    let answer = calls::run(q, power, m, y, n, work);
     let check = answer.check;
     match check {
         Check::Passed => {
-            smoother::smooth(q, power, n, work);
-            rows::tabulate(work, q.means_count, power, m, n, smoothed);
+            calls::smooth_rows(q, power, m, n, work, smoothed);
             rows::clear(work, 3 * (n * m));
             answer
         }
@@ -356,9 +355,12 @@ pub fn fit(
 ) -> Fitted
     ensures { λ r. ⌜ record { answer = r; work = now (work .exit); smoothed = now (smoothed .exit) } ≡ fitCall s (now (y .entry)) start «max_iter» tol (now (work .entry)) (now (smoothed .entry)) ⌝ }
 {
-    let b = binding::admit(s, y, start, work.len(), Tables::One(smoothed.len()));
+    let b = binding::bind(s, y);
     let bound = b.check;
-    if let Check::Failed(r) = bound {
+    let own = calls::memory(b, s.k_regimes, work.len(), smoothed.len());
+    let given = binding::parameters(s, start);
+    let admitted = first_of(bound, first_of(own, given));
+    if let Check::Failed(r) = admitted {
         return refused(r);
     }
     let variance = em_sample_variance::sample_variance(y);

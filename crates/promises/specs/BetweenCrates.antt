@@ -21,7 +21,6 @@ use Rattle.refusal.proofs.Refusal.said as refusal·said
 use Rattle.params.proofs.tidy.passed as params·passed
 use Rattle.params.proofs.tidy.refused as params·refused
 use Rattle.stationary.proofs.solved_shares as stationary·solved_shares
-use Rattle.rows.proofs.store as rows·store
 use Rattle.rows.proofs.clear as rows·clear
 use Rattle.rows.proofs.tabulate as rows·tabulate
 use Rattle.density.proofs.deviations as density·deviations
@@ -66,7 +65,6 @@ pub record BetweenCrates (M : Type 1) : Type 2 where
   pub refused-params : One M params·refused.ended params·refused.clauses
   pub solved-shares : One M stationary·solved_shares.ended stationary·solved_shares.clauses
   -- rows in memory, densities, predictions, the filter's parts
-  pub store : One M rows·store.ended rows·store.clauses
   pub clear : One M rows·clear.ended rows·clear.clauses
   pub tabulate : One M rows·tabulate.ended rows·tabulate.clauses
   pub deviations : One M density·deviations.ended density·deviations.clauses

@@ -1,20 +1,10 @@
-// Rows of window weights in lent memory: storing them, clearing them, and the probabilities of the labels.
+// Rows of window weights in lent memory: clearing them, and the probabilities of the labels.
 ghost use mathlib.Core.Path.{_≡_};
 ghost use Prim.Native.Nat.{_+_, _*_, _<_, _≤_};
 ghost use lib.ListN.{length, drop};
 ghost use Rattle.number.specs.Number.{zero⁺};
-ghost use Rattle.number.specs.Table.{_!_, fillAt};
+ghost use Rattle.number.specs.Table.{fillAt};
 ghost use Rattle.rows.specs.Steps.{labelSum, labelSumAt};
-
-// The first m places of a row, to the places from `at` on.
-pub fn store(row: &[f64; 256], m: usize, work: &mut [f64], at: usize)
-    requires { ⌜ (m ≤ 256) × (at + m ≤ length (now work)) ⌝ }
-    ensures { λ _. ⌜ now (work .exit) ≡ fillAt at (λ a. now (row .entry) ! a) m (now (work .entry)) ⌝ }
-{
-    for a in 0..m {
-        work[at + a] = row[a];
-    }
-}
 
 // +0 in the first n places.
 pub fn clear(work: &mut [f64], n: usize)

@@ -1,51 +1,32 @@
-use Prim.Native.Nat.{_-_, _≤_}
-use mathlib.Core.Path.{_≡_, sym, ap}
-use native.Mathlib.Omega.{arith}
+-- `readings`: 6 at the first reading that is not finite, or none.
+use mathlib.Core.Path.{_≡_, refl}
+use mathlib.Core.List.{List}
+use Prim.Native.Nat.{ℕ, _≤_, _<_}
 use borrow.Author.Needs.{needs}
-use lib.ListN.{length}
-use mathlib.Core.Bool.{not}
+use lib.Ieee.{Float}
+use Rattle.number.specs.Table.{_!_}
+use Rattle.number.specs.Tests.{holds, firstNot}
+use Rattle.number.specs.declared.Test.the-variants.{Finite}
 use Rattle.refusal.specs.Checks.{each}
-use Rattle.refusal.specs.declared.Check.the-variants.{Passed}
-use Rattle.refusal.proofs.Each.{each-none, each-more, each-found}
-use Rattle.refusal.proofs.Checks.{refused, passed}
+use Rattle.refusal.specs.declared.Check.the-variants.{Passed, Failed}
+use Rattle.refusal.specs.declared.Refusal.the-variants.{Reading}
+use Rattle.refusal.proofs.Each.{each-first}
 use Rattle.binding.specs.Binding.{readingCheck, readingsCheck}
 use Rattle.binding.proofs.readings.Statement.{statement}
 use Rattle.binding.proofs.readings.Tie as tie
-use Rattle.number.proofs.is_finite.Reads as is-finite-reads
 
-abbrev Inv-loop : tie.InvT-loop
-Inv-loop y n i₀ i = (i ≤ n) × (each i (readingCheck y) ≡ Passed)
+reading-first : (y : List Float) {n i : ℕ} → i ≡ firstNot (λ j. holds Finite (y ! j)) n
+    → (i < n → Failed (Reading i) ≡ each n (readingCheck y)) × (n ≤ i → Passed ≡ each n (readingCheck y))
+unfolding readingCheck holds
+reading-first y = each-first _ Reading (readingCheck y) (λ j. refl) _
 
-abbrev μ-loop : tie.MeasureT-loop
-μ-loop y n i₀ i = n - i
-
-loop-holds : tie.Need-loop-holds Inv-loop μ-loop
-loop-holds c = (omega arith, each-none _)
-
-returns : tie.Need-returns Inv-loop μ-loop
-unfolding readingsCheck readingCheck
-returns c = sym (each-found _ _ (c .before .before .before .before .loop .inv .1) _ (c .before .before .before .loop-test .taken) (refused _ (ap not (c .before .is-finite .ensures)) (c .if1 .taken)))
-
-loop-again : tie.Need-loop-again Inv-loop μ-loop
-unfolding readingsCheck readingCheck
-loop-again c = (omega arith, each-more _ _ (c .before .before .before .before .loop .inv .1) (passed _ (ap not (c .before .is-finite .ensures)) (c .if1 .left)))
-
-returns-2 : tie.Need-returns-2 Inv-loop μ-loop
+returns : tie.Need-returns
 unfolding readingsCheck
-returns-2 c = let e : c .before .loop .i ≡ length (c .before .before .before .args .y .now) = omega arith in sym (rw e at (c .before .loop .inv .1))
+returns c = reading-first _ (c .before .first-failing .ensures) .0 (c .if1 .taken)
+
+returns-2 : tie.Need-returns-2
+unfolding readingsCheck
+returns-2 c = reading-first _ (c .before .first-failing .ensures) .1 (c .if1 .left)
 
 pub readings-spec : {M : Type 1} → statement M
-readings-spec =
-    tie.close
-    (tie.spec
-    Inv-loop
-    μ-loop
-    loop-holds
-    (λ c. search needs)
-    (λ c. search needs)
-    (λ c κs. search needs)
-    returns
-    (λ c. search needs)
-    (λ c. search needs)
-    loop-again
-    returns-2)
+readings-spec = tie.close (tie.spec (λ c κs. search needs) returns returns-2)
