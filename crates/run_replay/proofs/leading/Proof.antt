@@ -1,17 +1,18 @@
--- `replay::cleared` meets its contract: the index stays within the memory. The measure is the count of places to come.
+-- `run_replay::leading` meets its contract: the index stays within the memory.
 use Prim.Native.Nat.{_≤_, _-_}
 use borrow.Author.Needs.{needs}
-use Rattle.run_replay.proofs.cleared.Statement.{statement}
-use Rattle.run_replay.proofs.cleared.Tie as tie
+use lib.ListN.{length}
+use Rattle.run_replay.proofs.leading.Statement.{statement}
+use Rattle.run_replay.proofs.leading.Tie as tie
 
 abbrev Inv-loop : tie.InvT-loop
-Inv-loop memory i₀ i = i ≤ 25600
+Inv-loop memory zero i₀ i = i ≤ length memory
 
 abbrev μ-loop : tie.MeasureT-loop
-μ-loop memory i₀ i = 25600 - i
+μ-loop memory zero i₀ i = length memory - i
 
-pub cleared-spec : {M : Type 1} → statement M
-cleared-spec =
+pub leading-spec : {M : Type 1} → statement M
+leading-spec =
     tie.close
     (tie.spec
     Inv-loop
