@@ -1,2 +1,2 @@
--- copies of all places, and answers spelled
+-- what a call leaves
 pub mod Spelling

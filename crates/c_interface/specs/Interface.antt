@@ -1,83 +1,21 @@
--- The C interface: the records that its arrays stand for, and how an answer is spelled in them.
--- After include/msar.h, which says the same in C, and document 01, "Refusals by number".
-use Prim.Native.Nat.{ℕ, _+_}
-use mathlib.Core.Bool.{Bool, true, false}
-use mathlib.Core.List.{List, [], _∷_}
-use lib.ListN.{getD, replicate}
+-- The C interface: the spec that it is handed, and what each of its calls leaves in the arrays.
+-- After include/msar.h, which says the same in C.
+use Prim.Native.Nat.{ℕ}
+use mathlib.Core.Bool.{Bool}
+use mathlib.Core.List.{List}
 use lib.Ieee.{Float}
-use Rattle.number.specs.Number.{zero⁺}
-use Rattle.number.specs.Table.{_!_, tab, fillAt}
-use Rattle.refusal.specs.Refusals.{said}
-use Rattle.refusal.specs.declared.Check.{Check}
-use Rattle.refusal.specs.declared.Check.the-variants.{Passed, Failed}
 use Rattle.spec.specs.declared.MsarSpec.{MsarSpec}
-use Rattle.spec.specs.declared.Windows.{Windows}
-use Rattle.spec.specs.declared.Windows.the-variants.{Count, Refused}
-use Rattle.params.specs.declared.MsarParams.{MsarParams}
 use Rattle.params.specs.declared.Durations.{Durations}
 use Rattle.stationary.specs.declared.Shares.{Shares}
 use Rattle.calls.specs.Calls.{Outcome}
-use Rattle.fit.specs.declared.Fitted.{Fitted}
 use Rattle.fit.specs.Calls.{FitOutcome}
-
--- ---- what is handed in
+use Rattle.c_layout.specs.Layout.{spelled, Listed, listed, fitSpelled, numbersAfter}
 
 abbrev pub specOf : ℕ → ℕ → Bool → Bool → MsarSpec
 specOf k p switchingAr switchingVariance =
     record { «k_regimes» = k; order = p; «switching_ar» = switchingAr; «switching_variance» = switchingVariance }
 
--- n numbers from place s on
-abbrev pub part : ℕ → ℕ → List Float → List Float
-part s n numbers = tab (λ i. numbers ! (s + i)) n
-
--- six counts and 400 numbers: the transition table, the means, the AR coefficients, the variances
-unfoldable pub paramsOf : List ℕ → List Float → MsarParams
-paramsOf counts numbers =
-    record {
-      transition = part 0 256 numbers;
-      means = part 256 16 numbers;
-      ar = part 272 112 numbers;
-      variances = part 384 16 numbers;
-      «means_count» = getD counts 0 0;
-      «transition_count» = getD counts 1 0;
-      «ar_blocks» = getD counts 2 0;
-      order = getD counts 3 0;
-      «ar_count» = getD counts 4 0;
-      «variances_count» = getD counts 5 0;
-    }
-
--- ---- how an answer is spelled
-
--- refusal number, place, iterations, converged; and the refusal's value, the log-likelihood. Number 0 is an answer
-pub record Spelled : Type 0 where
-  pub whole : List ℕ
-  pub real : List Float
-
--- a call without iterations, answered with a place and a log-likelihood
-abbrev pub spelled : Check → ℕ → Float → Spelled
-spelled Passed place loglik = record { whole = 0 ∷ place ∷ 0 ∷ 0 ∷ []; real = zero⁺ ∷ loglik ∷ [] }
-spelled (Failed r) place loglik = record { whole = said r .number ∷ said r .place ∷ 0 ∷ 0 ∷ []; real = said r .value ∷ zero⁺ ∷ [] }
-
--- the place is the number of windows
-abbrev pub windowsSpelled : Windows → Spelled
-windowsSpelled (Count m) = spelled Passed m zero⁺
-windowsSpelled (Refused r) = spelled (Failed r) 0 zero⁺
-
 -- ---- an answer of 16 numbers
-
-pub record Listed : Type 0 where
-  pub values : List Float
-  pub whole : List ℕ
-  pub real : List Float
-
--- a refusal leaves the 16 as found
-abbrev pub valuesAfter : Check → List Float → List Float → List Float
-valuesAfter Passed values found = values
-valuesAfter (Failed r) values found = found
-
-unfoldable pub listed : Check → List Float → List Float → Listed
-listed c values found =
-    record { values = valuesAfter c values found; whole = spelled c 0 zero⁺ .whole; real = spelled c 0 zero⁺ .real }
 
 abbrev pub durationsListed : Durations → List Float → Listed
 durationsListed d found = listed (d .check) (d .values) found
@@ -101,28 +39,6 @@ left o =
 
 -- ---- a fit: its parameters too, laid out as they are handed in
 
--- from 0 on the transition table, from 256 on the means, from 272 on the AR coefficients, from 384 on the variances
-unfoldable pub laidOut : MsarParams → List Float
-laidOut q =
-    fillAt 384 (λ i. q .variances ! i) 16
-    (fillAt 272 (λ i. q .ar ! i) 112
-    (fillAt 256 (λ i. q .means ! i) 16
-    (fillAt 0 (λ i. q .transition ! i) 256 (replicate 400 zero⁺))))
-
-abbrev pub flag : Bool → ℕ
-flag true = 1
-flag false = 0
-
--- a fit that was answered also says its iterations, and 1 where it converged
-abbrev pub fitSpelled : Check → Fitted → Spelled
-fitSpelled Passed f = record { whole = 0 ∷ 0 ∷ f .iterations ∷ flag (f .converged) ∷ []; real = zero⁺ ∷ f .loglik ∷ [] }
-fitSpelled (Failed r) f = spelled (Failed r) 0 zero⁺
-
--- a refusal leaves the 400 numbers as found
-abbrev pub numbersAfter : Check → MsarParams → List Float → List Float
-numbersAfter Passed q found = laidOut q
-numbersAfter (Failed r) q found = found
-
 pub record FitLeft : Type 0 where
   pub whole : List ℕ
   pub real : List Float
@@ -133,9 +49,10 @@ pub record FitLeft : Type 0 where
 unfoldable pub fitLeft : FitOutcome → List Float → FitLeft
 fitLeft o found =
     let f = o .answer in
+    let told = fitSpelled (f .check) (f .loglik) (f .iterations) (f .converged) in
     record {
-      whole = fitSpelled (f .check) f .whole;
-      real = fitSpelled (f .check) f .real;
+      whole = told .whole;
+      real = told .real;
       work = o .work;
       smoothed = o .smoothed;
       fitted = numbersAfter (f .check) (f .params) found;

@@ -14,11 +14,11 @@ ghost use Rattle.params.specs.Durations.{durationsOf};
 ghost use Rattle.stationary.specs.Stationary.{sharesOf};
 ghost use Rattle.calls.specs.Calls.{loglikeCall, filterCall, smoothCall};
 ghost use Rattle.fit.specs.Calls.{fitCall};
-ghost use Rattle.c_interface.specs.Interface.{specOf, paramsOf, Spelled, spelled, windowsSpelled, Listed, durationsListed, sharesListed, Left, left, FitLeft, fitLeft};
+ghost use Rattle.c_layout.specs.Layout.{paramsOf, Spelled, spelled, windowsSpelled, Listed};
+ghost use Rattle.c_interface.specs.Interface.{specOf, durationsListed, sharesListed, Left, left, FitLeft, fitLeft};
+use c_layout::given;
+use c_layout::told;
 use spec::MsarSpec;
-
-mod given;
-mod told;
 
 // ---- calls on a series
 

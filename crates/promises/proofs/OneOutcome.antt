@@ -42,6 +42,12 @@ between-crates M =
       new-ar = λ 𝓤 H A mem run κs a g r r′ ws ws′. both 𝓤 (λ e e′. (one-outcome e e′, refl));
       new-variances = λ 𝓤 H A mem run κs a g r r′ ws ws′. both 𝓤 (λ e e′. (one-outcome e e′, refl));
       step = λ 𝓤 H A mem run κs a g r r′ ws ws′. both 𝓤 (λ e e′. (one-outcome e e′, refl));
+      params-of = λ 𝓤 H A mem run κs a g r r′ ws ws′. both 𝓤 (λ e e′. (one-outcome e e′, refl));
+      spell = λ 𝓤 H A mem run κs a g r r′ ws ws′. both 𝓤 (λ e e′. (refl, λ i. (tt, (tt, (tt, (one-outcome e e′ i .whole, (one-outcome e e′ i .real, tt)))))));
+      spell-windows = λ 𝓤 H A mem run κs a g r r′ ws ws′. both 𝓤 (λ e e′. (refl, λ i. (tt, (one-outcome e e′ i .whole, (one-outcome e e′ i .real, tt)))));
+      spell-fit = λ 𝓤 H A mem run κs a g r r′ ws ws′. both 𝓤 (λ e e′. (refl, λ i. (tt, (tt, (tt, (tt, (one-outcome e e′ i .whole, (one-outcome e e′ i .real, tt))))))));
+      list = λ 𝓤 H A mem run κs a g r r′ ws ws′. both 𝓤 (λ e e′. (refl, λ i. (tt, (tt, (one-outcome e e′ i .values, (one-outcome e e′ i .whole, (one-outcome e e′ i .real, tt)))))));
+      lay-out = λ 𝓤 H A mem run κs a g r r′ ws ws′. both 𝓤 (λ e e′. (refl, λ i. (tt, (tt, (one-outcome e e′ i, tt)))));
     }
 
 pub each-has-one : (M : Type 1) → EachHasOne M

@@ -26,7 +26,8 @@ use Rattle.filter.specs.Filter.{filteredRow, rowCount, startShares, runCheck, a
 use Rattle.calls.specs.Calls.{Outcome, called, filteredTable, filterCall, smoothCall}
 use Rattle.calls.proofs.Admitted.{is-admitted}
 use Rattle.calls.proofs.Runs.{run-says}
-use Rattle.c_interface.specs.Interface.{spelled, left}
+use Rattle.c_layout.specs.Layout.{spelled}
+use Rattle.c_interface.specs.Interface.{left}
 use Rattle.promises.specs.Demand.{NotBelow, Demand3, Asked, AskedFromC, Demand}
 use Rattle.promises.proofs.Update.{near-same}
 use Rattle.promises.proofs.Filtered.{filtered-near-one}

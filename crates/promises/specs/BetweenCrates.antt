@@ -38,6 +38,12 @@ use Rattle.em_means.proofs.new_means as em_means·new_means
 use Rattle.em_coefficients.proofs.new_ar as em_coefficients·new_ar
 use Rattle.em_variances.proofs.new_variances as em_variances·new_variances
 use Rattle.em_step.proofs.step as em_step·step
+use Rattle.c_layout.proofs.given.params_of as c_layout·params_of
+use Rattle.c_layout.proofs.told.spell as c_layout·spell
+use Rattle.c_layout.proofs.told.spell_windows as c_layout·spell_windows
+use Rattle.c_layout.proofs.told.spell_fit as c_layout·spell_fit
+use Rattle.c_layout.proofs.told.list as c_layout·list
+use Rattle.c_layout.proofs.told.lay_out as c_layout·lay_out
 use Rattle.promises.specs.Contracts.{OneOutcome, OneOutcomeAsked, Contract}
 
 module _ (M : Type 1) (T : Ended) (c : Contract M T) where
@@ -83,3 +89,10 @@ pub record BetweenCrates (M : Type 1) : Type 2 where
   pub new-ar : One M em_coefficients·new_ar.ended em_coefficients·new_ar.clauses
   pub new-variances : One M em_variances·new_variances.ended em_variances·new_variances.clauses
   pub step : One M em_step·step.ended em_step·step.clauses
+  -- the arrays of the C interface
+  pub params-of : One M c_layout·params_of.ended c_layout·params_of.clauses
+  pub spell : One M c_layout·spell.ended c_layout·spell.clauses
+  pub spell-windows : One M c_layout·spell_windows.ended c_layout·spell_windows.clauses
+  pub spell-fit : One M c_layout·spell_fit.ended c_layout·spell_fit.clauses
+  pub list : One M c_layout·list.ended c_layout·list.clauses
+  pub lay-out : One M c_layout·lay_out.ended c_layout·lay_out.clauses

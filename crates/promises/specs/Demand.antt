@@ -17,7 +17,8 @@ use Rattle.params.specs.declared.MsarParams.{MsarParams}
 use Rattle.params.specs.Parameters.{k, p}
 use Rattle.filter.specs.Filter.{rowCount, startShares}
 use Rattle.calls.specs.Calls.{Outcome, filterCall, smoothCall}
-use Rattle.c_interface.specs.Interface.{specOf, paramsOf, Left, left}
+use Rattle.c_layout.specs.Layout.{paramsOf}
+use Rattle.c_interface.specs.Interface.{specOf, Left, left}
 
 -- x is not below zero. A NaN is not below zero either
 abbrev pub NotBelow : Float → Type 0

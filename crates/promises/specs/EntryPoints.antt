@@ -26,7 +26,8 @@ use Rattle.calls.specs.Calls.{loglikeCall, filterCall, smoothCall}
 use Rattle.fit.specs.Calls.{fitCall}
 use Rattle.text_decimal.specs.Text.{readOf}
 use Rattle.text_decimal.specs.Decimals.{writtenOf}
-use Rattle.c_interface.specs.Interface.{specOf, paramsOf, spelled, windowsSpelled, durationsListed, sharesListed, left, fitLeft}
+use Rattle.c_layout.specs.Layout.{paramsOf, spelled, windowsSpelled}
+use Rattle.c_interface.specs.Interface.{specOf, durationsListed, sharesListed, left, fitLeft}
 use Rattle.number.proofs.pattern as number·pattern
 use Rattle.number.proofs.of_pattern as number·of_pattern
 use Rattle.number.proofs.magnitude as number·magnitude

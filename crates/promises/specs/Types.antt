@@ -23,7 +23,7 @@ use Rattle.binding.proofs.Tables as binding·Tables
 use Rattle.filter.proofs.Answer as filter·Answer
 use Rattle.fit.proofs.Fitted as fit·Fitted
 use Rattle.record.proofs.MarkovSwitchingAr as markov·MarkovSwitchingAr
-use Rattle.record.proofs.Made as markov·Made
+use Rattle.record.proofs.Made as record·Made
 use Rattle.text_decimal.proofs.Parsed as decimal·Parsed
 use Rattle.text_decimal.proofs.Written as decimal·Written
 
@@ -70,7 +70,7 @@ module _ {n : ℕ} where
     model = plain (λ κs. markov·MarkovSwitchingAr.the-row (namedLft n j ok κs))
 
     abbrev pub made : Slot n
-    made = plain (λ κs. markov·Made.the-row (namedLft n j ok κs))
+    made = plain (λ κs. record·Made.the-row (namedLft n j ok κs))
 
 -- ---- the library's structs and enums
 

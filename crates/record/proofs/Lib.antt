@@ -1,3 +1,4 @@
+-- the laws that the walks share
 pub mod Apart
 pub mod Kit
 pub mod Thin

@@ -1,3 +1,4 @@
+-- `msar_check` spells the check of the parameters that its arrays stand for.
 use borrow.Author.Needs.{needs}
 use Rattle.c_interface.proofs.msar_check.Statement.{statement}
 use Rattle.c_interface.proofs.msar_check.Tie as tie

@@ -1,3 +1,4 @@
+-- `msar_durations` lists the expected durations under the parameters that its arrays stand for.
 use borrow.Author.Needs.{needs}
 use Rattle.c_interface.proofs.msar_durations.Statement.{statement}
 use Rattle.c_interface.proofs.msar_durations.Tie as tie

@@ -1,13 +1,15 @@
+-- `msar_fit` leaves what `fitCall` on the records of its arrays gives, spelled and laid out.
 use Rattle.c_interface.proofs.Spelling.{fit-leaves}
-use Prim.Native.Nat.{_-_, _/_}
-use mathlib.Core.Path.{refl}
 use borrow.Author.Needs.{needs}
 use Rattle.c_interface.proofs.msar_fit.Statement.{statement}
 use Rattle.c_interface.proofs.msar_fit.Tie as tie
 
--- src/lib.rt:113:1
 returns : tie.Need-returns
-returns c = fit-leaves _ (rw (c .before .before .before .before .before .before .before .before .before .before .before .before .params-of .ensures) at (c .before .before .before .before .before .before .before .before .before .fit .ensures)) (c .before .before .before .lay-out .ensures) (c .spell-fit .ensures (c .before .before .before .before .before .before .before .before .before .fit .result) refl refl refl)
+returns c =
+    let laid = c .before .before .before in
+    let ran = laid .before .before .before .before .before .before in
+    let made = ran .before .before .before in
+    fit-leaves _ (rw (made .params-of .ensures) at (ran .fit .ensures)) (laid .lay-out .ensures) (c .spell-fit .ensures)
 
 pub msar-fit-spec : {M : Type 1} → statement M
 msar-fit-spec =

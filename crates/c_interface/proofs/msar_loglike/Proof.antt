@@ -1,10 +1,14 @@
+-- `msar_loglike` leaves what `loglikeCall` on the records of its arrays gives, spelled.
 use Rattle.c_interface.proofs.Spelling.{leaves}
 use borrow.Author.Needs.{needs}
 use Rattle.c_interface.proofs.msar_loglike.Statement.{statement}
 use Rattle.c_interface.proofs.msar_loglike.Tie as tie
 
 returns : tie.Need-returns
-returns c = leaves (rw (c .before .before .before .before .before .before .before .params-of .ensures) at (c .before .before .before .before .before .loglike .ensures)) (c .spell .ensures)
+returns c =
+    let ran = c .before .before .before .before .before in
+    let made = ran .before .before in
+    leaves (rw (made .params-of .ensures) at (ran .loglike .ensures)) (c .spell .ensures)
 
 pub msar-loglike-spec : {M : Type 1} → statement M
 msar-loglike-spec =

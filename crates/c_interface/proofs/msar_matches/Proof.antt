@@ -1,3 +1,4 @@
+-- `msar_matches` says whether the records of its arrays are of one shape.
 use borrow.Author.Needs.{needs}
 use Rattle.c_interface.proofs.msar_matches.Statement.{statement}
 use Rattle.c_interface.proofs.msar_matches.Tie as tie

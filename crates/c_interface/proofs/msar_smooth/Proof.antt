@@ -1,10 +1,14 @@
+-- `msar_smooth` leaves what `smoothCall` on the records of its arrays gives, spelled.
 use Rattle.c_interface.proofs.Spelling.{leaves}
 use borrow.Author.Needs.{needs}
 use Rattle.c_interface.proofs.msar_smooth.Statement.{statement}
 use Rattle.c_interface.proofs.msar_smooth.Tie as tie
 
 returns : tie.Need-returns
-returns c = leaves (rw (c .before .before .before .before .before .before .before .before .before .before .before .before .before .params-of .ensures) at (c .before .before .before .before .before .before .before .before .before .smooth .ensures)) (c .spell .ensures)
+returns c =
+    let ran = c .before .before .before .before .before .before .before .before .before in
+    let made = ran .before .before .before .before in
+    leaves (rw (made .params-of .ensures) at (ran .smooth .ensures)) (c .spell .ensures)
 
 pub msar-smooth-spec : {M : Type 1} → statement M
 msar-smooth-spec =

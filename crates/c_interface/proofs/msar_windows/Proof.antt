@@ -1,3 +1,4 @@
+-- `msar_windows` spells the number of windows of its spec.
 use borrow.Author.Needs.{needs}
 use Rattle.c_interface.proofs.msar_windows.Statement.{statement}
 use Rattle.c_interface.proofs.msar_windows.Tie as tie

@@ -1,7 +1,10 @@
--- `markov::check_of` meets its contract: a walk of its MIR, by hand. What `new` returns is held in a local, and its check is handed back. All that the proof knows of `new` is that it meets its contract.
+-- `record::check_of` meets its contract: a walk of its MIR, by hand. What `new` returns is held in a local, and its check is handed back. All that the proof knows of `new` is that it meets its contract.
 -- In a local of a body MIR erases the lifetime of a type, so the value is shown to have its type at `erased`.
 -- Assumes nothing.
-use Rattle.record.proofs.Kit.{_≡_, refl, ap, [], _∷_, length, URA, fullShare, named, erased, Val, SProp, ent, sep, emp, via, fst∗, monoR, exE, exI, id⊢, fat, Memory, Routine, Heap, Calls, Loops, WpFn, Tables, Atoms, sem, fact-mono, Lfts, Shares, Fun, fact, givenOf, tables, tablesOf, Given, ‵, raw, _⊛_, some, later, _$_, _∵_, !, qed, by, move, drop, use1, split, join, pick, rewrite, await, whole, sub, look-in, look, init, forget, stop, fld, from, load, of-opd, and-then, no-more, assigns, land, returns, enter, alloc1, alloc0, params1, pass1, pass0, free1, free0, FmC, fmOf, owns, Is, shows, f64, NamedLft, now, namedLft, sliceVal, ShrSlice, slice-vals, shr-slice-tells, shr-slice-lawful, only, peeks, Contract, Triple, calls-at, Lasts, ensured, lasts, Args, Vals, alive, onEntry, Meets, tripleOf, entered, cited}
+use Rattle.record.proofs.Kit.{_≡_, refl, ap, [], _∷_, length, URA, fullShare, named, erased, Val, SProp, ent, sep, emp, via, fst∗, monoR, exE, exI, id⊢, fat, Memory, Routine, Heap, Calls, Loops, WpFn, Tables, Atoms, sem, fact-mono, Lfts}
+use Rattle.record.proofs.Kit.{Shares, Fun, fact, givenOf, tables, tablesOf, Given, ‵, raw, _⊛_, some, later, _$_, _∵_, !, qed, by, move, drop, use1, split, join, pick, rewrite, await, whole, sub, look-in, look, init, forget, stop, fld, from}
+use Rattle.record.proofs.Kit.{load, of-opd, and-then, no-more, assigns, land, returns, enter, alloc1, alloc0, params1, pass1, pass0, free1, free0, FmC, fmOf, owns, Is, shows, f64, NamedLft, now, namedLft, sliceVal, ShrSlice, slice-vals}
+use Rattle.record.proofs.Kit.{shr-slice-tells, shr-slice-lawful, only, peeks, Contract, Triple, calls-at, Lasts, ensured, lasts, Args, Vals, alive, onEntry, Meets, tripleOf, entered, cited}
 use denote.Enum.Laws as EL
 use denote.Struct.Laws as LL
 use Rattle.binding.specs.Binding.{boundCheck}
@@ -109,4 +112,4 @@ check-of-spec 𝓤 H 𝓜 𝓖 𝓡 =
     entered 𝓤 H (tripleOf 𝓤 H (𝓖 .A) self.signature (self.spec 𝓤 H (𝓖 .A) (𝓜 .mem) (𝓡 .run)))
     (tables 𝓤 H 𝓜 𝓡 code.env .C) (tables 𝓤 H 𝓜 𝓡 code.env .Λ) #self code.function (code.unfolded 𝓤 H 𝓜 𝓡)
     (self-meets 𝓤 H (𝓖 .A) (givenOf 𝓤 H 𝓜 𝓖) (𝓜 .mem) (𝓡 .run) (tablesOf 𝓤 H 𝓜 (tables 𝓤 H 𝓜 𝓡 code.env))
-    (cited 𝓤 H (New 𝓤 H (𝓖 .A) (𝓜 .mem) (𝓡 .run)) 𝓜 𝓡 code.env #new new-def.routine code.calls-markov·MarkovSwitchingAr·new (new-thm.met 𝓤 H 𝓜 𝓖 𝓡)))
+    (cited 𝓤 H (New 𝓤 H (𝓖 .A) (𝓜 .mem) (𝓡 .run)) 𝓜 𝓡 code.env #new new-def.routine code.calls-record·MarkovSwitchingAr·new (new-thm.met 𝓤 H 𝓜 𝓖 𝓡)))

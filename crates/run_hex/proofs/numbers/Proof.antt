@@ -1,4 +1,4 @@
--- `hex::numbers` meets its contract: the stores keep the length of `out`, which is at least `count`. The measure is the
+-- `run_hex::numbers` meets its contract: the stores keep the length of `out`, which is at least `count`. The measure is the
 -- count of numbers to come.
 use mathlib.Core.Path.{_≡_}
 use Prim.Native.Nat.{_≤_, _-_}

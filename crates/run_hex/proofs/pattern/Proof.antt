@@ -1,4 +1,4 @@
--- `hex::pattern` is safe and ends: the index stays below 16. The measure is what is left of the 16 digits.
+-- `run_hex::pattern` is safe and ends: the index stays below 16. The measure is what is left of the 16 digits.
 use Prim.Native.Nat.{_≤_, _-_}
 use borrow.Author.Needs.{needs}
 use Rattle.run_hex.proofs.pattern.Statement.{statement}

@@ -1,4 +1,4 @@
--- `replay::case` is safe: the readings fit the array, and the part of it that is lent is as long as their count.
+-- `run_replay::case` is safe: the readings fit the array, and the part of it that is lent is as long as their count.
 use mathlib.Core.Path.{sym}
 use native.Mathlib.Omega.{arith}
 use borrow.Author.Needs.{needs}
@@ -6,22 +6,21 @@ use lib.Seq.{length-take-le}
 use Rattle.run_replay.proofs.case.Statement.{statement}
 use Rattle.run_replay.proofs.case.Tie as tie
 
-slice-aggregate-parameters : tie.Need-slice-aggregate-parameters
-slice-aggregate-parameters c = sym (length-take-le _ _ (omega arith))
-
 pub case-spec : {M : Type 1} → statement M
 case-spec =
     tie.close
     (tie.spec
+    (λ c. search needs)
     (λ c κs. search needs)
-    (λ c κs. search needs)
-    (λ c. search needs)
-    (λ c. search needs)
-    (λ c. search needs)
     (λ c. search needs)
     (λ c κs. search needs)
     (λ c. search needs)
     (λ c. search needs)
-    slice-aggregate-parameters
+    (λ c. search needs)
+    (λ c. search needs)
+    (λ c κs. search needs)
+    (λ c. search needs)
+    (λ c. search needs)
+    (λ c. sym (length-take-le _ _ (omega arith)))
     (λ c κs. search needs)
     (λ c. search needs))

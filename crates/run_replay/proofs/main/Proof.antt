@@ -1,4 +1,4 @@
--- `replay::main` is safe and ends. The measure is what is left of the cases that it may answer.
+-- `run_replay::main` is safe and ends. The measure is what is left of the cases that it may answer.
 use Prim.Native.Nat.{_≤_, _-_}
 use borrow.Author.Needs.{needs}
 use Rattle.run_replay.proofs.main.Statement.{statement}

@@ -1,4 +1,4 @@
--- `replay::show_numbers` is safe and ends. The measure is the count of numbers to come.
+-- `run_replay::show_numbers` is safe and ends. The measure is the count of numbers to come.
 use Prim.Native.Nat.{_≤_, _-_}
 use borrow.Author.Needs.{needs}
 use Rattle.run_replay.proofs.show_numbers.Statement.{statement}

@@ -1,14 +1,16 @@
--- `replay::wholes` is safe and ends: the index stays below 14. The measure is the count of numbers to come.
+-- `run_replay::wholes` is safe and ends: the slice keeps its length, and the index stays within it.
 use Prim.Native.Nat.{_≤_, _-_}
+use mathlib.Core.Path.{_≡_}
 use borrow.Author.Needs.{needs}
+use lib.ListN.{length}
 use Rattle.run_replay.proofs.wholes.Statement.{statement}
 use Rattle.run_replay.proofs.wholes.Tie as tie
 
 abbrev Inv-loop : tie.InvT-loop
-Inv-loop out₀ i₀ out i = i ≤ 14
+Inv-loop out₀ i₀ out i = (i ≤ length out₀) × (length out ≡ length out₀)
 
 abbrev μ-loop : tie.MeasureT-loop
-μ-loop out₀ i₀ out i = 14 - i
+μ-loop out₀ i₀ out i = length out₀ - i
 
 pub wholes-spec : {M : Type 1} → statement M
 wholes-spec =
@@ -18,6 +20,8 @@ wholes-spec =
     μ-loop
     (λ c. search needs)
     (λ c κs. search needs)
+    (λ c. search needs)
+    (λ c. search needs)
     (λ c. search needs)
     (λ c. search needs)
     (λ c. search needs)

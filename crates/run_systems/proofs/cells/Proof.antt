@@ -1,4 +1,4 @@
--- `systems::cells` meets its contract: 16 times 16 is 256, and a product grows with its parts.
+-- `run_systems::cells` meets its contract: 16 times 16 is 256, and a product grows with its parts.
 use native.Mathlib.Omega.{arith}
 use native.Mathlib.Nat.{mul-le-mul}
 use Rattle.run_systems.proofs.cells.Statement.{statement}

@@ -1,4 +1,4 @@
--- `systems::main` is safe and ends. The measure is what is left of the lines that it may read: a turn that goes on has read
+-- `run_systems::main` is safe and ends. The measure is what is left of the lines that it may read: a turn that goes on has read
 -- some.
 use Prim.Native.Nat.{_≤_, _-_}
 use borrow.Author.Needs.{needs}

@@ -1,4 +1,4 @@
--- `systems::unknowns` is safe and ends. The measure is the count of unknowns to come.
+-- `run_systems::unknowns` is safe and ends. The measure is the count of unknowns to come.
 use Prim.Native.Nat.{_≤_, _-_}
 use borrow.Author.Needs.{needs}
 use Rattle.run_systems.proofs.unknowns.Statement.{statement}

@@ -1,4 +1,4 @@
--- `systems::zero_from` is safe and ends. The measure is the count of places to come: none where n is past the last.
+-- `run_systems::zero_from` is safe and ends. The measure is the count of places to come: none where n is past the last.
 use Prim.Native.Nat.{_≤_, _-_}
 use borrow.Author.Needs.{needs}
 use Rattle.run_systems.proofs.zero_from.Statement.{statement}

@@ -1,4 +1,4 @@
--- `vectors::main` is safe and ends. The measure is what is left of the lines that it may read.
+-- `run_vectors::main` is safe and ends. The measure is what is left of the lines that it may read.
 use Prim.Native.Nat.{_≤_, _-_}
 use borrow.Author.Needs.{needs}
 use Rattle.run_vectors.proofs.main.Statement.{statement}

@@ -1,6 +1,9 @@
--- `markov::MarkovSwitchingAr::fit` meets its contract: a walk of its MIR, by hand. The record is taken apart, and `fit` is called on the spec, the series and the other parameters. All that the proof knows of `fit` is that it meets its contract, whose `ensures` is this one's.
+-- `record::MarkovSwitchingAr::fit` meets its contract: a walk of its MIR, by hand. The record is taken apart, and `fit` is called on the spec, the series and the other parameters. All that the proof knows of `fit` is that it meets its contract, whose `ensures` is this one's.
 -- Assumes nothing.
-use Rattle.record.proofs.Kit.{refl, List, [], _∷_, binary64, length, URA, named, w64, Val, vint, vfloat, SProp, ent, emp, via, fst∗, id⊢, Memory, Routine, Heap, Calls, Loops, WpFn, Tables, Atoms, Lfts, Shares, Fun, givenOf, tables, tablesOf, Given, ‵, raw, _⊛_, some, later, _$_, _∵_, !, qed, by, move, use1, split, join, pick, await, agg, whole, sub, look-in, look, init, forget, stop, hop, fld, from, load, addr, of-opd, and-then, no-more, assigns, land, returns, enter, alloc1, alloc0, params1, pass1, pass0, free1, free0, FmC, fmOf, RattleType, Is, shows, uint-vals, uint-tells, uint-lawful, float-vals, float-tells, float-lawful, f64, usize, NamedLft, namedLft, sliceVal, MutSlice, slice-vals, mut-slice-tells, mut-slice-lawful, peeks, Contract, Triple, calls-at, ensured, lasts, atExit, Args, Vals, alive, onEntry, Meets, tripleOf, entered, cited}
+use Rattle.record.proofs.Kit.{refl, List, [], _∷_, binary64, length, URA, named, w64, Val, vint, vfloat, SProp, ent, emp, via, fst∗, id⊢, Memory, Routine, Heap, Calls, Loops, WpFn, Tables, Atoms, Lfts, Shares, Fun, givenOf, tables, tablesOf}
+use Rattle.record.proofs.Kit.{Given, ‵, raw, _⊛_, some, later, _$_, _∵_, !, qed, by, move, use1, split, join, pick, await, agg, whole, sub, look-in, look, init, forget, stop, hop, fld, from, load, addr, of-opd, and-then, no-more, assigns, land}
+use Rattle.record.proofs.Kit.{returns, enter, alloc1, alloc0, params1, pass1, pass0, free1, free0, FmC, fmOf, RattleType, Is, shows, uint-vals, uint-tells, uint-lawful, float-vals, float-tells, float-lawful, f64, usize, NamedLft, namedLft}
+use Rattle.record.proofs.Kit.{sliceVal, MutSlice, slice-vals, mut-slice-tells, mut-slice-lawful, peeks, Contract, Triple, calls-at, ensured, lasts, atExit, Args, Vals, alive, onEntry, Meets, tripleOf, entered, cited}
 use denote.Struct.Laws as LL
 use Rattle.fit.specs.declared.Fitted.{Fitted}
 use Rattle.record.proofs.MarkovSwitchingAr as T
@@ -68,7 +71,9 @@ module _ {M : Type 1} (𝓤 : URA M) (H : Heap 𝓤) (A : Atoms 𝓤) (W : Given
   said r = passes 𝓤 H A (lasts self.ended κs a) (λ ws. self.clauses 𝓤 H A mem run κs a .ensures tt r (atExit self.ended κs a ws))
 
   module _ (C : Calls 𝓤 H) (Λ : Loops 𝓤 H) (fm : FmC 𝓤 H (W .laws) C) (known : Triple 𝓤 (C #callee) (Callee 𝓤 H A mem run)) where
-    walk : Is (T.the-row α) (a .0) (mach (a .0) ∷ []) → Is (MsarParams′.the-row) (a .1 .0) (v-start ∷ []) → Is (usize) (a .1 .1 .0) (v-max-iter ∷ []) → Is (f64) (a .1 .1 .1 .0) (v-tol ∷ []) → Is (MutSlice (named 1) (κs .1 .0) f64) (a .1 .1 .1 .1 .0) (v-work ∷ []) → Is (MutSlice (named 2) (κs .1 .1 .0) f64) (a .1 .1 .1 .1 .1 .0) (v-smoothed ∷ []) → ent 𝓤 (onEntry 𝓤 H A self.signature κs qs a vals) (WpFn 𝓤 H C Λ code.function (mach (a .0) ∷ v-start ∷ v-max-iter ∷ v-tol ∷ v-work ∷ v-smoothed ∷ []) (Of 𝓤 H A self.ended (self.clauses 𝓤 H A mem run) .post y))
+    walk : Is (T.the-row α) (a .0) (mach (a .0) ∷ []) → Is (MsarParams′.the-row) (a .1 .0) (v-start ∷ []) → Is (usize) (a .1 .1 .0) (v-max-iter ∷ []) → Is (f64) (a .1 .1 .1 .0) (v-tol ∷ [])
+        → Is (MutSlice (named 1) (κs .1 .0) f64) (a .1 .1 .1 .1 .0) (v-work ∷ []) → Is (MutSlice (named 2) (κs .1 .1 .0) f64) (a .1 .1 .1 .1 .1 .0) (v-smoothed ∷ [])
+        → ent 𝓤 (onEntry 𝓤 H A self.signature κs qs a vals) (WpFn 𝓤 H C Λ code.function (mach (a .0) ∷ v-start ∷ v-max-iter ∷ v-tol ∷ v-work ∷ v-smoothed ∷ []) (Of 𝓤 H A self.ended (self.clauses 𝓤 H A mem run) .post y))
     walk i-d i-start i-max-iter i-tol i-work i-smoothed =
         let t-d = LL.lawful (T.the-type α) (T′.the-laws α) 𝓤 H A W .typed (a .0) (mach (a .0) ∷ []) i-d .0 in
         let t-start = LL.lawful MsarParams′.the-type MsarParams″.the-laws 𝓤 H A W .typed (a .1 .0) (v-start ∷ []) i-start .0 in
@@ -77,7 +82,8 @@ module _ {M : Type 1} (𝓤 : URA M) (H : Heap 𝓤) (A : Atoms 𝓤) (W : Given
         let t-work = mut-slice-lawful 𝓤 H A W (named 1) (κs .1 .0) f64 .typed (a .1 .1 .1 .1 .0) (v-work ∷ []) i-work .0 in
         let t-smoothed = mut-slice-lawful 𝓤 H A W (named 2) (κs .1 .1 .0) f64 .typed (a .1 .1 .1 .1 .1 .0) (v-smoothed ∷ []) i-smoothed .0 in
         qed W (raw (onEntry 𝓤 H A self.signature κs qs a vals) ∷ []) ∵ enter ! C Λ code.function (mach (a .0) ∷ v-start ∷ v-max-iter ∷ v-tol ∷ v-work ∷ v-smoothed ∷ []) _ $
-        alloc1 ! (λ l0. alloc1 ! (λ l1. alloc1 ! (λ l2. alloc1 ! (λ l3. alloc1 ! (λ l4. alloc1 ! (λ l5. alloc1 ! (λ l6. alloc1 ! (λ l7. alloc1 ! (λ l8. alloc1 ! (λ l9. alloc1 ! (λ l10. alloc1 ! (λ l11. alloc1 ! (λ l12. alloc0 ! $ params1 ! $ pass1 ! (init ! 22 refl t-d) $ pass1 ! (init ! 20 refl t-start) $ pass1 ! (init ! 18 refl t-max-iter) $ pass1 ! (init ! 16 refl t-tol) $ pass1 ! (init ! 14 refl t-work) $ pass1 ! (init ! 12 refl t-smoothed) $ pass0 ! $
+        alloc1 ! (λ l0. alloc1 ! (λ l1. alloc1 ! (λ l2. alloc1 ! (λ l3. alloc1 ! (λ l4. alloc1 ! (λ l5. alloc1 ! (λ l6. alloc1 ! (λ l7. alloc1 ! (λ l8. alloc1 ! (λ l9. alloc1 ! (λ l10. alloc1 ! (λ l11. alloc1 ! (λ l12. alloc0 ! $ params1 ! $
+        pass1 ! (init ! 22 refl t-d) $ pass1 ! (init ! 20 refl t-start) $ pass1 ! (init ! 18 refl t-max-iter) $ pass1 ! (init ! 16 refl t-tol) $ pass1 ! (init ! 14 refl t-work) $ pass1 ! (init ! 12 refl t-smoothed) $ pass0 ! $
         -- [_12; …; _11; …; _10; …; _9; …; _8; …; _7; …; _6; …; _5; …; _4; …; _3; …; _2; …; _1; …; room for _0; …; what is had at entry]
         assigns ! (of-opd ! (load ! (from ! (fld ! refl (stop !))) (look-in ! 22 (sub ! 1 refl (whole !))))) (from ! (stop !)) (init ! 10 refl (tt, t-d .1 .1 .0)) $
         assigns ! (of-opd ! (load ! (from ! (fld ! refl (stop !))) (look-in ! 22 (sub ! 0 refl (whole !))))) (from ! (stop !)) (init ! 8 refl (tt, t-d .1 .0)) $
@@ -92,7 +98,9 @@ module _ {M : Type 1} (𝓤 : URA M) (H : Heap 𝓤) (A : Atoms 𝓤) (W : Given
         -- [the result; the tokens; what is ensured; _12; …; _11; …; _10; …; _9; …; _8; …; _7; …; _6; …; _5; …; _4; …; _3; …; _2; …; _1; …; room for _0; …]
         peeks ! Fitted′.the-row (Is (Fitted′.the-row)) (shows 𝓤 H A (Fitted′.the-row)) r (u ∷ []) (λ is. land ! (from ! (stop !)) (init ! 27 refl (LL.lawful Fitted′.the-type Fitted″.the-laws 𝓤 H A W .typed r _ is .0)) $
         returns ! (look ! 27 refl) $ forget ! 3 refl $ forget ! 5 refl $ forget ! 7 refl $ forget ! 9 refl $ forget ! 11 refl $ forget ! 13 refl $ forget ! 15 refl $ forget ! 17 refl $ forget ! 19 refl $ forget ! 21 refl $ forget ! 23 refl $ forget ! 25 refl $ forget ! 27 refl $
-        move ! (27 ∷ 28 ∷ []) $ free1 ! $ move ! (25 ∷ 26 ∷ []) $ free1 ! $ move ! (23 ∷ 24 ∷ []) $ free1 ! $ move ! (21 ∷ 22 ∷ []) $ free1 ! $ move ! (19 ∷ 20 ∷ []) $ free1 ! $ move ! (17 ∷ 18 ∷ []) $ free1 ! $ move ! (15 ∷ 16 ∷ []) $ free1 ! $ move ! (13 ∷ 14 ∷ []) $ free1 ! $ move ! (11 ∷ 12 ∷ []) $ free1 ! $ move ! (9 ∷ 10 ∷ []) $ free1 ! $ move ! (7 ∷ 8 ∷ []) $ free1 ! $ move ! (5 ∷ 6 ∷ []) $ free1 ! $ move ! (3 ∷ 4 ∷ []) $ free1 ! $ free0 ! $ move ! (1 ∷ 0 ∷ []) $ join ! $ by ! (ends 𝓤 H A self.ended (self.clauses 𝓤 H A mem run) W y u r)))))))))))))))))
+        move ! (27 ∷ 28 ∷ []) $ free1 ! $ move ! (25 ∷ 26 ∷ []) $ free1 ! $ move ! (23 ∷ 24 ∷ []) $ free1 ! $ move ! (21 ∷ 22 ∷ []) $ free1 ! $ move ! (19 ∷ 20 ∷ []) $ free1 ! $ move ! (17 ∷ 18 ∷ []) $ free1 ! $ move ! (15 ∷ 16 ∷ []) $ free1 ! $
+        move ! (13 ∷ 14 ∷ []) $ free1 ! $ move ! (11 ∷ 12 ∷ []) $ free1 ! $ move ! (9 ∷ 10 ∷ []) $ free1 ! $ move ! (7 ∷ 8 ∷ []) $ free1 ! $ move ! (5 ∷ 6 ∷ []) $ free1 ! $ move ! (3 ∷ 4 ∷ []) $ free1 ! $ free0 ! $ move ! (1 ∷ 0 ∷ []) $ join ! $
+        by ! (ends 𝓤 H A self.ended (self.clauses 𝓤 H A mem run) W y u r)))))))))))))))))
 
 self-meets : {M : Type 1} (𝓤 : URA M) (H : Heap 𝓤) (A : Atoms 𝓤) (W : Given 𝓤 H A) (mem : Memory → SProp 𝓤) (run : Routine → Fun 𝓤) (𝓣 : Tables 𝓤 H)
     → Triple 𝓤 (𝓣 .C #callee) (Callee 𝓤 H A mem run) → Meets 𝓤 H A self.signature (WpFn 𝓤 H (𝓣 .C) (𝓣 .Λ) code.function) (self.spec 𝓤 H A mem run)

@@ -1,7 +1,11 @@
--- `markov::MarkovSwitchingAr::new` meets its contract: a walk of its MIR, by hand. `check` is called on the spec and the series, the record is made of the series and the spec, and a `Made` of the two.
+-- `record::MarkovSwitchingAr::new` meets its contract: a walk of its MIR, by hand. `check` is called on the spec and the series, the record is made of the series and the spec, and a `Made` of the two.
 -- All that the proof knows of `check` is that it meets its contract. A `&[f64]` and a spec are Copy: what they own is had again for each use.
 -- Assumes nothing.
-use Rattle.record.proofs.Kit.{_≡_, refl, ap, List, [], _∷_, Float, length, URA, fullShare, named, Val, SProp, ent, sep, emp, via, fst∗, snd∗, exE, id⊢, Lft, Share, Fml, ftrue, fat, flft, Memory, Routine, Heap, Calls, Loops, WpFn, Tables, Atoms, sem, Fun, fact, givenOf, tables, tablesOf, Given, ‵, raw, _⊛_, ⋆, some, later, _$_, _∵_, !, qed, by, move, keep, use1, use2, split, join, pick, rewrite, fsplit, fjoin, suffices, frame, await, done, agg, look, init, forget, stop, from, load, and-then, no-more, assigns, land, returns, enter, alloc1, alloc0, params1, pass1, pass0, free1, free0, FmC, fmOf, WpFn-mono, owns, Is, shows, f64, RefT, NamedLft, now, plain, namedLft, sliceVal, ShrSlice, slice-vals, shr-slice-tells, shr-slice-lawful, shr-slice-copy, only, peeks, heard, nothing, own-shut, Contract, Triple, calls-at, Args, Vals, onEntry, Meets, tripleOf, entered, cited, says, Stays, stay-none, stay-none-slice, walkOf, goes-none, goes-none-slice, Walks, ends-at, walked, walk-meets, yes, ensured, lasts}
+use Rattle.record.proofs.Kit.{_≡_, refl, ap, List, [], _∷_, Float, length, URA, fullShare, named, Val, SProp, ent, sep, emp, via, fst∗, snd∗, exE, id⊢, Lft, Share, Fml, ftrue, fat, flft, Memory, Routine, Heap, Calls, Loops, WpFn, Tables, Atoms}
+use Rattle.record.proofs.Kit.{sem, Fun, fact, givenOf, tables, tablesOf, Given, ‵, raw, _⊛_, ⋆, some, later, _$_, _∵_, !, qed, by, move, keep, use1, use2, split, join, pick, rewrite, fsplit, fjoin, suffices, frame, await, done, agg, look, init}
+use Rattle.record.proofs.Kit.{forget, stop, from, load, and-then, no-more, assigns, land, returns, enter, alloc1, alloc0, params1, pass1, pass0, free1, free0, FmC, fmOf, WpFn-mono, owns, Is, shows, f64, RefT, NamedLft, now, plain, namedLft}
+use Rattle.record.proofs.Kit.{sliceVal, ShrSlice, slice-vals, shr-slice-tells, shr-slice-lawful, shr-slice-copy, only, peeks, heard, nothing, own-shut, Contract, Triple, calls-at, Args, Vals, onEntry, Meets, tripleOf, entered, cited, says}
+use Rattle.record.proofs.Kit.{Stays, stay-none, stay-none-slice, walkOf, goes-none, goes-none-slice, Walks, ends-at, walked, walk-meets, yes, ensured, lasts}
 use denote.Enum.Laws as EL
 use denote.Struct.Laws as LL
 use Rattle.binding.specs.Binding.{boundCheck}

@@ -1,6 +1,9 @@
--- `markov::MarkovSwitchingAr::smooth` meets its contract: a walk of its MIR, by hand. The record is taken apart, and `smooth` is called on the spec, the series and the other parameters. All that the proof knows of `smooth` is that it meets its contract, whose `ensures` is this one's.
+-- `record::MarkovSwitchingAr::smooth` meets its contract: a walk of its MIR, by hand. The record is taken apart, and `smooth` is called on the spec, the series and the other parameters. All that the proof knows of `smooth` is that it meets its contract, whose `ensures` is this one's.
 -- Assumes nothing.
-use Rattle.record.proofs.Kit.{refl, List, [], _∷_, length, URA, named, Val, SProp, ent, emp, via, fst∗, id⊢, Memory, Routine, Heap, Calls, Loops, WpFn, Tables, Atoms, Lfts, Shares, Fun, givenOf, tables, tablesOf, Given, ‵, raw, _⊛_, some, later, _$_, _∵_, !, qed, by, move, use1, split, join, pick, await, agg, whole, sub, look-in, look, init, forget, stop, hop, fld, from, load, addr, of-opd, and-then, no-more, assigns, land, returns, enter, alloc1, alloc0, params1, pass1, pass0, free1, free0, FmC, fmOf, RattleType, Is, shows, f64, NamedLft, namedLft, sliceVal, MutSlice, slice-vals, mut-slice-tells, mut-slice-lawful, peeks, Contract, Triple, calls-at, ensured, lasts, atExit, Args, Vals, alive, onEntry, Meets, tripleOf, entered, cited}
+use Rattle.record.proofs.Kit.{refl, List, [], _∷_, length, URA, named, Val, SProp, ent, emp, via, fst∗, id⊢, Memory, Routine, Heap, Calls, Loops, WpFn, Tables, Atoms, Lfts, Shares, Fun, givenOf, tables, tablesOf, Given, ‵, raw, _⊛_, some}
+use Rattle.record.proofs.Kit.{later, _$_, _∵_, !, qed, by, move, use1, split, join, pick, await, agg, whole, sub, look-in, look, init, forget, stop, hop, fld, from, load, addr, of-opd, and-then, no-more, assigns, land, returns, enter, alloc1}
+use Rattle.record.proofs.Kit.{alloc0, params1, pass1, pass0, free1, free0, FmC, fmOf, RattleType, Is, shows, f64, NamedLft, namedLft, sliceVal, MutSlice, slice-vals, mut-slice-tells, mut-slice-lawful, peeks, Contract, Triple, calls-at, ensured}
+use Rattle.record.proofs.Kit.{lasts, atExit, Args, Vals, alive, onEntry, Meets, tripleOf, entered, cited}
 use denote.Struct.Laws as LL
 use Rattle.filter.specs.declared.Answer.{Answer}
 use Rattle.record.proofs.MarkovSwitchingAr as T
@@ -65,7 +68,9 @@ module _ {M : Type 1} (𝓤 : URA M) (H : Heap 𝓤) (A : Atoms 𝓤) (W : Given
   said r = passes 𝓤 H A (lasts self.ended κs a) (λ ws. self.clauses 𝓤 H A mem run κs a .ensures tt r (atExit self.ended κs a ws))
 
   module _ (C : Calls 𝓤 H) (Λ : Loops 𝓤 H) (fm : FmC 𝓤 H (W .laws) C) (known : Triple 𝓤 (C #callee) (Callee 𝓤 H A mem run)) where
-    walk : Is (T.the-row α) (a .0) (mach (a .0) ∷ []) → Is (MsarParams′.the-row) (a .1 .0) (v-params ∷ []) → Is (MutSlice (named 1) (κs .1 .0) f64) (a .1 .1 .0) (v-work ∷ []) → Is (MutSlice (named 2) (κs .1 .1 .0) f64) (a .1 .1 .1 .0) (v-filtered ∷ []) → Is (MutSlice (named 3) (κs .1 .1 .1 .0) f64) (a .1 .1 .1 .1 .0) (v-smoothed ∷ []) → ent 𝓤 (onEntry 𝓤 H A self.signature κs qs a vals) (WpFn 𝓤 H C Λ code.function (mach (a .0) ∷ v-params ∷ v-work ∷ v-filtered ∷ v-smoothed ∷ []) (Of 𝓤 H A self.ended (self.clauses 𝓤 H A mem run) .post y))
+    walk : Is (T.the-row α) (a .0) (mach (a .0) ∷ []) → Is (MsarParams′.the-row) (a .1 .0) (v-params ∷ []) → Is (MutSlice (named 1) (κs .1 .0) f64) (a .1 .1 .0) (v-work ∷ []) → Is (MutSlice (named 2) (κs .1 .1 .0) f64) (a .1 .1 .1 .0) (v-filtered ∷ [])
+        → Is (MutSlice (named 3) (κs .1 .1 .1 .0) f64) (a .1 .1 .1 .1 .0) (v-smoothed ∷ [])
+        → ent 𝓤 (onEntry 𝓤 H A self.signature κs qs a vals) (WpFn 𝓤 H C Λ code.function (mach (a .0) ∷ v-params ∷ v-work ∷ v-filtered ∷ v-smoothed ∷ []) (Of 𝓤 H A self.ended (self.clauses 𝓤 H A mem run) .post y))
     walk i-d i-params i-work i-filtered i-smoothed =
         let t-d = LL.lawful (T.the-type α) (T′.the-laws α) 𝓤 H A W .typed (a .0) (mach (a .0) ∷ []) i-d .0 in
         let t-params = LL.lawful MsarParams′.the-type MsarParams″.the-laws 𝓤 H A W .typed (a .1 .0) (v-params ∷ []) i-params .0 in
@@ -73,7 +78,8 @@ module _ {M : Type 1} (𝓤 : URA M) (H : Heap 𝓤) (A : Atoms 𝓤) (W : Given
         let t-filtered = mut-slice-lawful 𝓤 H A W (named 2) (κs .1 .1 .0) f64 .typed (a .1 .1 .1 .0) (v-filtered ∷ []) i-filtered .0 in
         let t-smoothed = mut-slice-lawful 𝓤 H A W (named 3) (κs .1 .1 .1 .0) f64 .typed (a .1 .1 .1 .1 .0) (v-smoothed ∷ []) i-smoothed .0 in
         qed W (raw (onEntry 𝓤 H A self.signature κs qs a vals) ∷ []) ∵ enter ! C Λ code.function (mach (a .0) ∷ v-params ∷ v-work ∷ v-filtered ∷ v-smoothed ∷ []) _ $
-        alloc1 ! (λ l0. alloc1 ! (λ l1. alloc1 ! (λ l2. alloc1 ! (λ l3. alloc1 ! (λ l4. alloc1 ! (λ l5. alloc1 ! (λ l6. alloc1 ! (λ l7. alloc1 ! (λ l8. alloc1 ! (λ l9. alloc1 ! (λ l10. alloc1 ! (λ l11. alloc1 ! (λ l12. alloc1 ! (λ l13. alloc0 ! $ params1 ! $ pass1 ! (init ! 24 refl t-d) $ pass1 ! (init ! 22 refl t-params) $ pass1 ! (init ! 20 refl t-work) $ pass1 ! (init ! 18 refl t-filtered) $ pass1 ! (init ! 16 refl t-smoothed) $ pass0 ! $
+        alloc1 ! (λ l0. alloc1 ! (λ l1. alloc1 ! (λ l2. alloc1 ! (λ l3. alloc1 ! (λ l4. alloc1 ! (λ l5. alloc1 ! (λ l6. alloc1 ! (λ l7. alloc1 ! (λ l8. alloc1 ! (λ l9. alloc1 ! (λ l10. alloc1 ! (λ l11. alloc1 ! (λ l12. alloc1 ! (λ l13. alloc0 ! $ params1 ! $
+        pass1 ! (init ! 24 refl t-d) $ pass1 ! (init ! 22 refl t-params) $ pass1 ! (init ! 20 refl t-work) $ pass1 ! (init ! 18 refl t-filtered) $ pass1 ! (init ! 16 refl t-smoothed) $ pass0 ! $
         -- [_13; …; _12; …; _11; …; _10; …; _9; …; _8; …; _7; …; _6; …; _5; …; _4; …; _3; …; _2; …; _1; …; room for _0; …; what is had at entry]
         assigns ! (of-opd ! (load ! (from ! (fld ! refl (stop !))) (look-in ! 24 (sub ! 1 refl (whole !))))) (from ! (stop !)) (init ! 14 refl (tt, t-d .1 .1 .0)) $
         assigns ! (of-opd ! (load ! (from ! (fld ! refl (stop !))) (look-in ! 24 (sub ! 0 refl (whole !))))) (from ! (stop !)) (init ! 12 refl (tt, t-d .1 .0)) $
@@ -89,8 +95,11 @@ module _ {M : Type 1} (𝓤 : URA M) (H : Heap 𝓤) (A : Atoms 𝓤) (W : Given
         split ! $ move ! (1 ∷ []) $ use1 W (raw (ensured 𝓤 H A self.ended (self.clauses 𝓤 H A mem run) κs a tt r)) (said r) $ move ! (1 ∷ []) $ split ! $ move ! (1 ∷ []) $
         -- [the result; the tokens; what is ensured; _13; …; _12; …; _11; …; _10; …; _9; …; _8; …; _7; …; _6; …; _5; …; _4; …; _3; …; _2; …; _1; …; room for _0; …]
         peeks ! Answer′.the-row (Is (Answer′.the-row)) (shows 𝓤 H A (Answer′.the-row)) r (u ∷ []) (λ is. land ! (from ! (stop !)) (init ! 29 refl (LL.lawful Answer′.the-type Answer″.the-laws 𝓤 H A W .typed r _ is .0)) $
-        returns ! (look ! 29 refl) $ forget ! 3 refl $ forget ! 5 refl $ forget ! 7 refl $ forget ! 9 refl $ forget ! 11 refl $ forget ! 13 refl $ forget ! 15 refl $ forget ! 17 refl $ forget ! 19 refl $ forget ! 21 refl $ forget ! 23 refl $ forget ! 25 refl $ forget ! 27 refl $ forget ! 29 refl $
-        move ! (29 ∷ 30 ∷ []) $ free1 ! $ move ! (27 ∷ 28 ∷ []) $ free1 ! $ move ! (25 ∷ 26 ∷ []) $ free1 ! $ move ! (23 ∷ 24 ∷ []) $ free1 ! $ move ! (21 ∷ 22 ∷ []) $ free1 ! $ move ! (19 ∷ 20 ∷ []) $ free1 ! $ move ! (17 ∷ 18 ∷ []) $ free1 ! $ move ! (15 ∷ 16 ∷ []) $ free1 ! $ move ! (13 ∷ 14 ∷ []) $ free1 ! $ move ! (11 ∷ 12 ∷ []) $ free1 ! $ move ! (9 ∷ 10 ∷ []) $ free1 ! $ move ! (7 ∷ 8 ∷ []) $ free1 ! $ move ! (5 ∷ 6 ∷ []) $ free1 ! $ move ! (3 ∷ 4 ∷ []) $ free1 ! $ free0 ! $ move ! (1 ∷ 0 ∷ []) $ join ! $ by ! (ends 𝓤 H A self.ended (self.clauses 𝓤 H A mem run) W y u r))))))))))))))))))
+        returns ! (look ! 29 refl) $ forget ! 3 refl $ forget ! 5 refl $ forget ! 7 refl $ forget ! 9 refl $ forget ! 11 refl $ forget ! 13 refl $ forget ! 15 refl $ forget ! 17 refl $ forget ! 19 refl $ forget ! 21 refl $ forget ! 23 refl $
+        forget ! 25 refl $ forget ! 27 refl $ forget ! 29 refl $
+        move ! (29 ∷ 30 ∷ []) $ free1 ! $ move ! (27 ∷ 28 ∷ []) $ free1 ! $ move ! (25 ∷ 26 ∷ []) $ free1 ! $ move ! (23 ∷ 24 ∷ []) $ free1 ! $ move ! (21 ∷ 22 ∷ []) $ free1 ! $ move ! (19 ∷ 20 ∷ []) $ free1 ! $ move ! (17 ∷ 18 ∷ []) $ free1 ! $
+        move ! (15 ∷ 16 ∷ []) $ free1 ! $ move ! (13 ∷ 14 ∷ []) $ free1 ! $ move ! (11 ∷ 12 ∷ []) $ free1 ! $ move ! (9 ∷ 10 ∷ []) $ free1 ! $ move ! (7 ∷ 8 ∷ []) $ free1 ! $ move ! (5 ∷ 6 ∷ []) $ free1 ! $ move ! (3 ∷ 4 ∷ []) $ free1 ! $ free0 ! $
+        move ! (1 ∷ 0 ∷ []) $ join ! $ by ! (ends 𝓤 H A self.ended (self.clauses 𝓤 H A mem run) W y u r))))))))))))))))))
 
 self-meets : {M : Type 1} (𝓤 : URA M) (H : Heap 𝓤) (A : Atoms 𝓤) (W : Given 𝓤 H A) (mem : Memory → SProp 𝓤) (run : Routine → Fun 𝓤) (𝓣 : Tables 𝓤 H)
     → Triple 𝓤 (𝓣 .C #callee) (Callee 𝓤 H A mem run) → Meets 𝓤 H A self.signature (WpFn 𝓤 H (𝓣 .C) (𝓣 .Λ) code.function) (self.spec 𝓤 H A mem run)

@@ -1,0 +1,2 @@
+-- copies of all places, and answers laid out
+pub mod Spelling

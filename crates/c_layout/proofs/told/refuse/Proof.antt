@@ -1,0 +1,10 @@
+-- `told::refuse` spells a refusal.
+use borrow.Author.Needs.{needs}
+use Rattle.c_layout.proofs.told.refuse.Statement.{statement}
+use Rattle.c_layout.proofs.told.refuse.Tie as tie
+
+returns : tie.Need-returns
+returns c = cc
+
+pub refuse-spec : {M : Type 1} → statement M
+refuse-spec = tie.close (tie.spec (λ c κs. search needs) (λ c κs. search needs) (λ c κs. search needs) returns)
