@@ -2,12 +2,11 @@
 use Prim.Native.Nat.{ℕ, suc, _+_, _<_, _≤_}
 use mathlib.Core.Path.{_≡_, sym, _∙_}
 use mathlib.Core.Bool.{Bool, true, false}
-use mathlib.Core.List.{List, [], _∷_}
+use mathlib.Core.List.{List}
 use native.Mathlib.Omega.{arith}
-use borrow.Author.Needs.{needs}
-use lib.ListN.{length, drop, getD, drop-of-length-le}
+use lib.ListN.{length, getD, drop-of-length-le}
 use lib.Seq.{drop-cons}
-use Rattle.text_words.specs.Words.{onward, leading, past}
+use Rattle.text_words.specs.Words.{leading, past}
 
 module _ (p : ℕ → Bool) (l : List ℕ) (i : ℕ) (h : i < length l) where
   here : p (getD l i 0) ≡ false → past p l i ≡ i
