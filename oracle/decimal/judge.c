@@ -1,5 +1,5 @@
 // The answers of C's strtod and printf, in the form of crates/run_decimals: standard input has lines of 95 bytes, each a number and spaces.
-// Only lines that crates/text_decimal takes come here.
+// Only lines that crates/text_decimal_read takes come here.
 #include <stdio.h>
 #include <stdlib.h>
 #include <string.h>

@@ -43,8 +43,8 @@ use Rattle.record.proofs.loglike_of as record·loglike_of
 use Rattle.record.proofs.filter_of as record·filter_of
 use Rattle.record.proofs.smooth_of as record·smooth_of
 use Rattle.record.proofs.fit_of as record·fit_of
-use Rattle.text_decimal.proofs.read as text_decimal·read
-use Rattle.text_decimal.proofs.write as text_decimal·write
+use Rattle.text_decimal_read.proofs.read as text_decimal_read·read
+use Rattle.text_decimal_write.proofs.write as text_decimal_write·write
 use Rattle.c_interface.proofs.msar_loglike as c·loglike
 use Rattle.c_interface.proofs.msar_filter as c·filter
 use Rattle.c_interface.proofs.msar_smooth as c·smooth
@@ -118,6 +118,6 @@ entry-points M =
       is-finite = entry-point (λ κs a r ws e. (e, refl)) number·is_finite.Met.met;
       is-usable = entry-point (λ κs a r ws e. (e, refl)) number·is_usable.Met.met;
       max = entry-point (λ κs a r ws e. (e, refl)) number·max.Met.met;
-      read = entry-point (λ κs a r ws e. (e, refl)) text_decimal·read.Met.met;
-      write = entry-point (λ κs a r ws e. (e, refl)) text_decimal·write.Met.met;
+      read = entry-point (λ κs a r ws e. (e, refl)) text_decimal_read·read.Met.met;
+      write = entry-point (λ κs a r ws e. (e, refl)) text_decimal_write·write.Met.met;
     }

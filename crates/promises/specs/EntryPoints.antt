@@ -24,8 +24,8 @@ use Rattle.stationary.specs.Stationary.{sharesOf}
 use Rattle.binding.specs.Binding.{boundCheck, boundOf, admitted}
 use Rattle.calls.specs.Calls.{loglikeCall, filterCall, smoothCall}
 use Rattle.fit.specs.Calls.{fitCall}
-use Rattle.text_decimal.specs.Text.{readOf}
-use Rattle.text_decimal.specs.Decimals.{writtenOf}
+use Rattle.text_decimal_read.specs.Text.{readOf}
+use Rattle.text_decimal_write.specs.Decimals.{writtenOf}
 use Rattle.c_layout.specs.Layout.{paramsOf, spelled, windowsSpelled}
 use Rattle.c_interface.specs.Interface.{specOf, durationsListed, sharesListed, left, fitLeft}
 use Rattle.number.proofs.pattern as number·pattern
@@ -69,8 +69,8 @@ use Rattle.record.proofs.loglike_of as record·loglike_of
 use Rattle.record.proofs.filter_of as record·filter_of
 use Rattle.record.proofs.smooth_of as record·smooth_of
 use Rattle.record.proofs.fit_of as record·fit_of
-use Rattle.text_decimal.proofs.read as text_decimal·read
-use Rattle.text_decimal.proofs.write as text_decimal·write
+use Rattle.text_decimal_read.proofs.read as text_decimal_read·read
+use Rattle.text_decimal_write.proofs.write as text_decimal_write·write
 use Rattle.c_interface.proofs.msar_loglike as c·loglike
 use Rattle.c_interface.proofs.msar_filter as c·filter
 use Rattle.c_interface.proofs.msar_smooth as c·smooth
@@ -501,5 +501,5 @@ pub record EntryPoints (M : Type 1) : Type 2 where
   pub is-usable : EntryPoint M isUsableType number·is_usable.clauses number·is_usable.Symbol.routine isUsableOutcome
   pub max : EntryPoint M maxType number·max.clauses number·max.Symbol.routine maxOutcome
   -- decimals
-  pub read : EntryPoint M readType text_decimal·read.clauses text_decimal·read.Symbol.routine readOutcome
-  pub write : EntryPoint M writeType text_decimal·write.clauses text_decimal·write.Symbol.routine writeOutcome
+  pub read : EntryPoint M readType text_decimal_read·read.clauses text_decimal_read·read.Symbol.routine readOutcome
+  pub write : EntryPoint M writeType text_decimal_write·write.clauses text_decimal_write·write.Symbol.routine writeOutcome

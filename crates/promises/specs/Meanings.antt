@@ -13,9 +13,9 @@ use Rattle.params.specs.declared.MsarParams.{MsarParams}
 use Rattle.params.specs.Checks.{parameterCheck}
 use Rattle.params.specs.Built.{builtOf}
 use Rattle.fit.specs.Calls.{fitCall}
-use Rattle.text_decimal.specs.Text.{readOf}
-use Rattle.text_decimal.specs.Decimals.{writtenOf}
-use Rattle.text_decimal.specs.declared.Parsed.the-variants.{Number}
+use Rattle.text_decimal_read.specs.Text.{readOf}
+use Rattle.text_decimal_write.specs.Decimals.{writtenOf}
+use Rattle.text_decimal_read.specs.declared.Parsed.the-variants.{Number}
 
 pub record Meanings : Type 0 where
   -- `rootOf x` is the root of x by IEEE 754's sentence, and no other binary64 is

@@ -24,8 +24,8 @@ use Rattle.filter.proofs.Answer as filter·Answer
 use Rattle.fit.proofs.Fitted as fit·Fitted
 use Rattle.record.proofs.MarkovSwitchingAr as markov·MarkovSwitchingAr
 use Rattle.record.proofs.Made as record·Made
-use Rattle.text_decimal.proofs.Parsed as decimal·Parsed
-use Rattle.text_decimal.proofs.Written as decimal·Written
+use Rattle.text_decimal_read.proofs.Parsed as decimal·Parsed
+use Rattle.text_decimal_write.proofs.Written as decimal·Written
 
 -- a function with n lifetimes, these parameters and this result
 abbrev pub fn : (n : ℕ) → List (Slot n) → Slot n → Ended

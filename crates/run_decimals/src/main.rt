@@ -3,7 +3,7 @@
 // line `pattern text`, the pattern of the number as 16 hexadecimal digits (every NaN as 7ff8000000000000) and the text that is
 // written of it; or `wrong N`, N the place of the first byte at fault.
 ghost use Prim.Native.Nat.{_≤_};
-use text_decimal::Parsed;
+use text_decimal_read::Parsed;
 
 // How many bytes of the line there are before the first space.
 fn text_length(line: &[u8; 96]) -> usize
@@ -20,7 +20,7 @@ fn text_length(line: &[u8; 96]) -> usize
 }
 
 fn answer_number(x: f64) -> bool {
-    let w = text_decimal::write(x);
+    let w = text_decimal_write::write(x);
     let bytes = w.bytes;
     let n = w.length;
     run_hex::write(number::pattern(x), b' ')
@@ -39,7 +39,7 @@ fn next() -> bool {
         return false;
     }
     let n = text_length(&line);
-    match text_decimal::read(&line[0..n]) {
+    match text_decimal_read::read(&line[0..n]) {
         Parsed::Number(x) => answer_number(x),
         Parsed::Wrong(at) => answer_wrong(at),
     }

@@ -7,17 +7,18 @@ use native.Mathlib.Nat.{mul-le-mul-right, mul-le-mul-left, pow-suc, mod-one, mod
 use native.Mathlib.Omega.{arith}
 use borrow.Author.Tests.{lt-ltb, le-ltb, ne-eqb}
 use lib.Dec.{lit<}
-use Rattle.text_decimal.specs.declared.Place.{Place}
-use Rattle.text_decimal.specs.declared.Place.the-variants.{Sign, Whole, Fraction, Mark, MarkSign, Exponent}
-use Rattle.text_decimal.specs.declared.State.{State}
-use Rattle.text_decimal.specs.declared.Next.{Next}
-use Rattle.text_decimal.specs.declared.Next.the-variants.{Go}
-use Rattle.text_decimal.specs.declared.Parsed.the-variants.{Number}
-use Rattle.text_decimal.specs.declared.Decimal.{Decimal}
+use Rattle.text_decimal_grammar.specs.declared.Place.{Place}
+use Rattle.text_decimal_grammar.specs.declared.Place.the-variants.{Sign, Whole, Fraction, Mark, MarkSign, Exponent}
+use Rattle.text_decimal_grammar.specs.declared.State.{State}
+use Rattle.text_decimal_grammar.specs.declared.Next.{Next}
+use Rattle.text_decimal_grammar.specs.declared.Next.the-variants.{Go}
+use Rattle.text_decimal_read.specs.declared.Parsed.the-variants.{Number}
+use Rattle.text_decimal_write.specs.declared.Decimal.{Decimal}
 use Rattle.number.specs.Number.{_<?_}
-use Rattle.text_decimal.specs.Text.{digitOf, nothing, moved, minus, minusExponent, wholeDigit, fractionDigit, exponentDigit, mark, afterSign, atStart, inWhole, inFraction, inExponent, afterMark, stepAt, step, numberOf, finishAt, onward, scan, readOf}
-use Rattle.text_decimal.specs.Decimals.{digitsText, exponentText, decimalText, signText}
-use Rattle.text_decimal.proofs.Tens.{ten-pos, mod-of}
+use Rattle.text_decimal_grammar.specs.Grammar.{digitOf, nothing, moved, minus, minusExponent, wholeDigit, fractionDigit, exponentDigit, mark, afterSign, atStart, inWhole, inFraction, inExponent, afterMark, stepAt, step}
+use Rattle.text_decimal_read.specs.Text.{numberOf, finishAt, onward, scan, readOf}
+use Rattle.text_decimal_write.specs.Decimals.{digitsText, exponentText, decimalText, signText}
+use Rattle.text_limbs.proofs.Tens.{ten-pos, mod-of}
 
 abbrev pub st : Place → Bool → ℕ → ℕ → Bool → ℕ → State
 st p s d n u e = record { place = p; negative = s; digits = d; up = 0; down = n; under = u; exponent = e }

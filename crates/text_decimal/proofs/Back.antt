@@ -17,13 +17,13 @@ use lib.Ieee.Exact.{HasValue, units-val}
 use lib.Ieee.Nearest.{closest}
 use Rattle.rounding.proofs.Choose.{le-or-lt}
 use Rattle.rounding.proofs.Error.{closest-error}
-use Rattle.text_decimal.specs.declared.Decimal.{Decimal}
-use Rattle.text_decimal.specs.Decimals.{over, under, tens, decimalOf}
-use Rattle.text_decimal.specs.Room.{guessOf}
-use Rattle.text_decimal.proofs.Tens.{ten-pos}
-use Rattle.text_decimal.proofs.Halves.{nearest-below, nearest-above}
-use Rattle.text_decimal.proofs.Patterns.{to-bits}
-use Rattle.text_decimal.proofs.First.{under-pos, next-ten, reach-next, tens-are, Guessed, guessed}
+use Rattle.text_decimal_write.specs.declared.Decimal.{Decimal}
+use Rattle.text_decimal_write.specs.Decimals.{over, under, tens, decimalOf}
+use Rattle.text_decimal_write.specs.Room.{guessOf}
+use Rattle.text_limbs.proofs.Tens.{ten-pos}
+use Rattle.text_limbs.proofs.Halves.{nearest-below, nearest-above}
+use Rattle.text_decimal_read.proofs.Patterns.{to-bits}
+use Rattle.text_decimal_write.proofs.First.{under-pos, next-ten, reach-next, tens-are, Guessed, guessed}
 
 -- ---- to the nearest whole number, from less than half away
 

@@ -20,15 +20,16 @@ use Rattle.rounding.specs.Units.{inUnits}
 use Rattle.rounding.proofs.Choose.{le-or-lt}
 use Rattle.rounding.proofs.Units.{placed, placed-units}
 use Rattle.number.specs.Number.{_<?_}
-use Rattle.text_decimal.specs.declared.Place.the-variants.{Exponent}
-use Rattle.text_decimal.specs.declared.Parsed.the-variants.{Number}
-use Rattle.text_decimal.specs.declared.Decimal.{Decimal}
-use Rattle.text_decimal.specs.declared.State.{State}
-use Rattle.text_decimal.specs.Text.{numberOf, readOf, scan, nothing, step, stepAt, digitOf, moved, minus, wholeDigit, fractionDigit, exponentDigit, mark, afterSign, atStart, inWhole, afterZero, inFraction, inExponent, afterMark, inWord, finishAt}
-use Rattle.text_decimal.specs.Decimals.{over, under, tens, decimalOf, digitsText, exponentText, decimalText, unitsText, signText, textOf, written, writtenOf}
-use Rattle.text_decimal.specs.Room.{guessOf}
-use Rattle.text_decimal.proofs.Tens.{ten-pos}
-use Rattle.text_decimal.proofs.First.{under-pos, reach-next, tens-are, Guessed, guessed}
+use Rattle.text_decimal_grammar.specs.declared.Place.the-variants.{Exponent}
+use Rattle.text_decimal_read.specs.declared.Parsed.the-variants.{Number}
+use Rattle.text_decimal_write.specs.declared.Decimal.{Decimal}
+use Rattle.text_decimal_grammar.specs.declared.State.{State}
+use Rattle.text_decimal_grammar.specs.Grammar.{nothing, step, stepAt, digitOf, moved, minus, wholeDigit, fractionDigit, exponentDigit, mark, afterSign, atStart, inWhole, afterZero, inFraction, inExponent, afterMark, inWord}
+use Rattle.text_decimal_read.specs.Text.{numberOf, readOf, scan, finishAt}
+use Rattle.text_decimal_write.specs.Decimals.{over, under, tens, decimalOf, digitsText, exponentText, decimalText, unitsText, signText, textOf, written, writtenOf}
+use Rattle.text_decimal_write.specs.Room.{guessOf}
+use Rattle.text_limbs.proofs.Tens.{ten-pos}
+use Rattle.text_decimal_write.proofs.First.{under-pos, reach-next, tens-are, Guessed, guessed}
 use Rattle.text_decimal.proofs.Back.{Near, round-back, same-value, tens-reach, decimal-near, read-near}
 use Rattle.text_decimal.proofs.Again.{st, below, sizeOf, text-back}
 

@@ -5,9 +5,10 @@ use mathlib.Core.List.{[], _∷_}
 use lib.Ieee.{ofBits, round, size, units, odd, inf}
 use Rattle.number.specs.Number.{float}
 use Rattle.rounding.specs.Units.{inUnits}
-use Rattle.text_decimal.specs.declared.Parsed.the-variants.{Number, Wrong}
-use Rattle.text_decimal.specs.Text.{digitOf, hexOf, nothing, moved, minus, minusExponent, wholeDigit, fractionDigit, exponentDigit, hexDigit, mark, afterSign, atStart, inWhole, afterZero, afterPoint, inFraction, inExponent, afterMark, inWord, inHex, stepAt, step, numberOf, finishAt, scan, readOf}
-use Rattle.text_decimal.specs.Decimals.{largest, tens, decimalOf, digitsText, exponentText, decimalText, unitsText, textOf}
+use Rattle.text_decimal_read.specs.declared.Parsed.the-variants.{Number, Wrong}
+use Rattle.text_decimal_grammar.specs.Grammar.{digitOf, hexOf, nothing, moved, minus, minusExponent, wholeDigit, fractionDigit, exponentDigit, hexDigit, mark, afterSign, atStart, inWhole, afterZero, afterPoint, inFraction, inExponent, afterMark, inWord, inHex, stepAt, step}
+use Rattle.text_decimal_read.specs.Text.{numberOf, finishAt, scan, readOf}
+use Rattle.text_decimal_write.specs.Decimals.{largest, tens, decimalOf, digitsText, exponentText, decimalText, unitsText, textOf}
 
 -- 9007199254740993
 past-2-53 : readOf (57 ∷ 48 ∷ 48 ∷ 55 ∷ 49 ∷ 57 ∷ 57 ∷ 50 ∷ 53 ∷ 52 ∷ 55 ∷ 52 ∷ 48 ∷ 57 ∷ 57 ∷ 51 ∷ []) ≡ Number (float 0x4340000000000000)

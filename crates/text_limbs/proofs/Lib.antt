@@ -11,3 +11,7 @@ pub mod Place
 pub mod Length
 -- without the lowest digits
 pub mod Lowest
+-- powers of ten
+pub mod Tens
+-- to the nearest whole number
+pub mod Halves

@@ -122,7 +122,7 @@ module _ (l : List ℕ) (g p : ℕ) (h : Limbs l) (k : g < 2240) (e : p ≡ 2 ^ 
           small : (x y r t v a : ℕ) → v < 2 ^ 64 → 2 * (x + 2 ^ 32 * (y + 2 ^ 32 * r)) ≤ t → v ≡ a + t → x + 2 ^ 32 * (y + 2 ^ 32 * r) ≡ y * 2 ^ 32 + x
           small x y r t v a f m s = omega arith
 
-  pub cut-whole : value l / 2 ^ g < 2 ^ 64 → (getD l (g / 32 + 2) 0 * 2 ^ 32 + getD l (g / 32 + 1) 0) * (2 ^ 32 / p) + getD l (g / 32) 0 / p ≡ value l / 2 ^ g
+  cut-whole : value l / 2 ^ g < 2 ^ 64 → (getD l (g / 32 + 2) 0 * 2 ^ 32 + getD l (g / 32 + 1) 0) * (2 ^ 32 / p) + getD l (g / 32) 0 / p ≡ value l / 2 ^ g
   cut-whole f =
       sym
       (cut-is
@@ -133,11 +133,11 @@ module _ (l : List ℕ) (g p : ℕ) (h : Limbs l) (k : g < 2240) (e : p ≡ 2 ^ 
       flip : (a q n : ℕ) → a + q * n ≡ n * q + a
       flip a q n = omega arith
 
-  pub power-some : 0 < p
+  power-some : 0 < p
   power-some = divides (g % 32) p (omega arith) e .0
 
   -- a digit of the next limb is cut off that is not zero
-  pub rest-some : (getD l (g / 32) 0 % p ≡ 0 → ⊥) → true ≡ not (eqb (value l % 2 ^ g) 0)
+  rest-some : (getD l (g / 32) 0 % p ≡ 0 → ⊥) → true ≡ not (eqb (value l % 2 ^ g) 0)
   rest-some f =
       sym
       (ap not
@@ -150,8 +150,19 @@ module _ (l : List ℕ) (g p : ℕ) (h : Limbs l) (k : g < 2240) (e : p ≡ 2 ^ 
       go (suc x) w t a s = absurd (omega arith)
 
   -- or none: then it is those of the limbs below
-  pub rest-lower : getD l (g / 32) 0 % p ≡ 0 → value l % 2 ^ g ≡ value (take (g / 32) l)
+  rest-lower : getD l (g / 32) 0 % p ≡ 0 → value l % 2 ^ g ≡ value (take (g / 32) l)
   rest-lower f = rest-is ∙ ap (λ (z : ℕ). z * weight (g / 32) + value (take (g / 32) l)) (upper-rest ∙ f) ∙ none (weight (g / 32)) (value (take (g / 32) l))
     where
       none : (w t : ℕ) → 0 * w + t ≡ t
       none w t = omega arith
+
+-- what is left without the lowest g digits, and whether one of those was not zero
+pub record Parted (l : List ℕ) (g p : ℕ) : Type 0 where
+  pub power : 0 < p
+  pub whole : (getD l (g / 32 + 2) 0 * 2 ^ 32 + getD l (g / 32 + 1) 0) * (2 ^ 32 / p) + getD l (g / 32) 0 / p ≡ value l / 2 ^ g
+  pub some : (getD l (g / 32) 0 % p ≡ 0 → ⊥) → true ≡ not (eqb (value l % 2 ^ g) 0)
+  pub none : getD l (g / 32) 0 % p ≡ 0 → value l % 2 ^ g ≡ value (take (g / 32) l)
+
+pub parted : (l : List ℕ) (g p : ℕ) → Limbs l → g < 2240 → p ≡ 2 ^ (g % 32) → value l / 2 ^ g < 2 ^ 64 → Parted l g p
+parted l g p h k e f =
+    record { power = power-some l g p h k e; whole = cut-whole l g p h k e f; some = rest-some l g p h k e; none = rest-lower l g p h k e }

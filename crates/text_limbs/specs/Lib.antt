@@ -1,1 +1,4 @@
+-- numbers as limbs
 pub mod Limbs
+-- numbers whose end is cut off
+pub mod Remains

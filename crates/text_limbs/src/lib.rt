@@ -6,6 +6,9 @@ ghost use lib.Dec.{eqb};
 ghost use lib.ListN.{getD, take, drop};
 ghost use lib.Ieee.{size};
 ghost use Rattle.text_limbs.specs.Limbs.{value, Limbs};
+ghost use Rattle.text_limbs.specs.Remains.{halvedOf};
+
+pub mod ten;
 
 // A number without its lowest digits, and whether one of those was not zero.
 pub struct Cut {
@@ -131,4 +134,18 @@ pub fn cut_off(l: &[u64; 72], g: usize) -> Cut
         whole: whole,
         rest: rest,
     }
+}
+
+// whole / 2 to the nearest whole number, where `rest` says that something was cut off; at a tie the even one
+pub fn halved(whole: u64, rest: bool) -> u64
+    ensures { λ r. ⌜ r ≡ halvedOf whole rest ⌝ }
+{
+    let q = whole / 2;
+    if whole % 2 == 0 {
+        return q;
+    }
+    if rest {
+        return q + 1;
+    }
+    q + q % 2
 }

@@ -1,6 +1,5 @@
 // A MODEL file, line by line. docs/MODEL.md has its grammar. Places in a line count from 0.
-ghost use mathlib.Core.Path.{_≡_};
-ghost use Prim.Native.Nat.{_<_, _≤_};
+ghost use Prim.Native.Nat.{_≤_};
 ghost use lib.ListN.{length};
 ghost use Rattle.text_model.specs.Shaped.{Held};
 use params::MsarParams;
@@ -8,36 +7,10 @@ use refusal::Check;
 use refusal::Refusal;
 use spec::MsarSpec;
 use spec::Windows;
-use text_decimal::Parsed;
+use text_model_line::Fault;
+use text_model_line::Kind;
+use text_model_line::Outcome;
 use text_words::Count;
-
-// What was expected where a line is at fault.
-pub enum Fault {
-    Keyword,
-    Once,
-    SizesFirst,
-    Size,
-    Number,
-    // so many numbers, and no more
-    Numbers(usize),
-    // one number, or so many
-    OneOr(usize),
-    // no further line of this kind: so many are enough
-    Enough(usize),
-    // at the end of the file
-    Regimes,
-    Order,
-    // so many lines
-    Transition(usize),
-    Means,
-    Variances,
-}
-
-pub enum Outcome {
-    Fine,
-    Wrong(Fault, usize),
-    Refused(Refusal),
-}
 
 // What was read so far: k and p with whether they are known, and the parameters, whose counts say what is known of them; of the
 // transition table so many rows.
@@ -53,24 +26,6 @@ pub struct Draft {
 pub struct Step {
     pub outcome: Outcome,
     pub draft: Draft,
-}
-
-// The numbers behind a keyword, and the place where they end.
-struct Row {
-    outcome: Outcome,
-    values: [f64; 16],
-    count: usize,
-    end: usize,
-}
-
-enum Kind {
-    Regimes,
-    Order,
-    Transition,
-    Means,
-    Ar,
-    Variances,
-    Other,
 }
 
 // Nothing is known.
@@ -117,116 +72,6 @@ fn refused(r: Refusal, draft: Draft) -> Step {
     }
 }
 
-// ---- words
-
-fn keyword(word: &[u8]) -> Kind {
-    if text_words::same(word, b"regimes") {
-        return Kind::Regimes;
-    }
-    if text_words::same(word, b"order") {
-        return Kind::Order;
-    }
-    if text_words::same(word, b"transition") {
-        return Kind::Transition;
-    }
-    if text_words::same(word, b"means") {
-        return Kind::Means;
-    }
-    if text_words::same(word, b"ar") {
-        return Kind::Ar;
-    }
-    if text_words::same(word, b"variances") {
-        return Kind::Variances;
-    }
-    Kind::Other
-}
-
-// The place of the byte at fault in a word that starts at `start`.
-fn within(start: usize, end: usize, fault: usize) -> usize
-    requires { ⌜ start ≤ end ⌝ }
-{
-    if fault <= end - start {
-        return start + fault;
-    }
-    start
-}
-
-fn stopped(fault: Fault, place: usize) -> Row
-    ensures { λ r. ⌜ r .count ≡ 0 ⌝ }
-{
-    Row {
-        outcome: Outcome::Wrong(fault, place),
-        values: [0.0; 16],
-        count: 0,
-        end: place,
-    }
-}
-
-// The row of these n numbers, where nothing but a comment follows them.
-fn no_more(line: &[u8], from: usize, n: usize, values: [f64; 16]) -> Row
-    requires { ⌜ from ≤ length (now line) ⌝ }
-    ensures { λ r. ⌜ r .count ≤ n ⌝ }
-{
-    let more = text_words::word(line, from);
-    if more.start != more.end {
-        return stopped(Fault::Numbers(n), more.start);
-    }
-    Row {
-        outcome: Outcome::Fine,
-        values,
-        count: n,
-        end: more.start,
-    }
-}
-
-// The numbers from this place on, no more than `most` of them.
-fn numbers(line: &[u8], from: usize, most: usize) -> Row
-    requires { ⌜ (from ≤ length (now line)) × (most ≤ 16) ⌝ }
-    ensures { λ r. ⌜ r .count ≤ most ⌝ }
-{
-    let mut values = [0.0; 16];
-    let mut count = 0;
-    let mut at = from;
-    while count < most {
-        let word = text_words::word(line, at);
-        let a = word.start;
-        let b = word.end;
-        if a == b {
-            return Row {
-                outcome: Outcome::Fine,
-                values,
-                count,
-                end: a,
-            };
-        }
-        match text_decimal::read(&line[a..b]) {
-            Parsed::Wrong(i) => {
-                return stopped(Fault::Number, within(a, b, i));
-            }
-            Parsed::Number(x) => {
-                values[count] = x;
-            }
-        }
-        count += 1;
-        at = b;
-    }
-    no_more(line, at, most, values)
-}
-
-// The whole number from this place on, alone.
-fn size(line: &[u8], from: usize) -> Count
-    requires { ⌜ from ≤ length (now line) ⌝ }
-{
-    let word = text_words::word(line, from);
-    let a = word.start;
-    let b = word.end;
-    let more = text_words::word(line, b);
-    if more.start != more.end {
-        return Count::Wrong;
-    }
-    text_words::whole(&line[a..b])
-}
-
 // ---- the shape
 
 // 1 to 3, before anything is kept that would not fit.
@@ -245,57 +90,6 @@ fn shaped(k: usize, p: usize) -> Check
     }
 }
 
-// ---- rows into tables
-
-// The place of number i of a row of n.
-fn in_table(row: usize, n: usize, i: usize) -> usize
-    requires { ⌜ (row < 16) × (n ≤ 16) × (i < n) ⌝ }
-    ensures { λ r. ⌜ r < 256 ⌝ }
-{
-    row * n + i
-}
-
-// The place of number i of a block of p.
-fn in_blocks(block: usize, p: usize, i: usize) -> usize
-    requires { ⌜ (block < 16) × (p ≤ 7) × (i < p) ⌝ }
-    ensures { λ r. ⌜ r < 112 ⌝ }
-{
-    block * p + i
-}
-
-// How many numbers the rows up to this one hold.
-fn up_to(row: usize, n: usize) -> usize
-    requires { ⌜ (row < 16) × (n ≤ 16) ⌝ }
-{
-    (row + 1) * n
-}
-
-// Row number `row`, of n numbers.
-fn with_row(table: [f64; 256], row: usize, n: usize, values: [f64; 16]) -> [f64; 256]
-    requires { ⌜ (row < 16) × (n ≤ 16) ⌝ }
-{
-    let mut next = table;
-    let mut i = 0;
-    while i < n {
-        next[in_table(row, n, i)] = values[i];
-        i += 1;
-    }
-    next
-}
-
-// Block number `block`, of p numbers.
-fn with_block(table: [f64; 112], block: usize, p: usize, values: [f64; 16]) -> [f64; 112]
-    requires { ⌜ (block < 16) × (p ≤ 7) ⌝ }
-{
-    let mut next = table;
-    let mut i = 0;
-    while i < p {
-        next[in_blocks(block, p, i)] = values[i];
-        i += 1;
-    }
-    next
-}
-
 // ---- lines
 
 fn regimes(line: &[u8], start: usize, from: usize, d: Draft) -> Step
@@ -304,7 +98,7 @@ fn regimes(line: &[u8], start: usize, from: usize, d: Draft) -> Step
     if d.has_k {
         return wrong(Fault::Once, start, d);
     }
-    match size(line, from) {
+    match text_model_line::size(line, from) {
         Count::Wrong => {
             let word = text_words::word(line, from);
             wrong(Fault::Size, word.start, d)
@@ -324,7 +118,7 @@ fn order(line: &[u8], start: usize, from: usize, d: Draft) -> Step
     if d.has_p {
         return wrong(Fault::Once, start, d);
     }
-    match size(line, from) {
+    match text_model_line::size(line, from) {
         Count::Wrong => {
             let word = text_words::word(line, from);
             wrong(Fault::Size, word.start, d)
@@ -339,20 +133,6 @@ fn order(line: &[u8], start: usize, from: usize, d: Draft) -> Step
             fine(next)
         }
     }
-}
-
-// The numbers, exactly so many.
-fn all_numbers(line: &[u8], from: usize, n: usize) -> Row
-    requires { ⌜ (from ≤ length (now line)) × (n ≤ 16) ⌝ }
-{
-    let row = numbers(line, from, n);
-    let outcome = row.outcome;
-    if let Outcome::Fine = outcome {
-        if row.count < n {
-            return stopped(Fault::Numbers(n), row.end);
-        }
-    }
-    row
 }
 
 // The draft with the line's numbers, unless they are at fault.
@@ -372,14 +152,14 @@ fn transition(line: &[u8], start: usize, from: usize, d: Draft) -> Step
     if rows >= k {
         return wrong(Fault::Enough(k), start, d);
     }
-    let row = all_numbers(line, from, k);
+    let row = text_model_line::all_numbers(line, from, k);
     let outcome = row.outcome;
     let values = row.values;
     let mut q = d.params;
     let table = q.transition;
-    let kept = with_row(table, rows, k, values);
+    let kept = text_model_line::with_row(table, rows, k, values);
     q.transition = kept;
-    q.transition_count = up_to(rows, k);
+    q.transition_count = text_model_line::up_to(rows, k);
     let mut next = d;
     next.params = q;
     next.rows = rows + 1;
@@ -395,14 +175,14 @@ fn ar(line: &[u8], start: usize, from: usize, d: Draft) -> Step
     if blocks >= d.k {
         return wrong(Fault::Enough(d.k), start, d);
     }
-    let row = all_numbers(line, from, p);
+    let row = text_model_line::all_numbers(line, from, p);
     let outcome = row.outcome;
     let values = row.values;
     let table = q.ar;
-    let kept = with_block(table, blocks, p, values);
+    let kept = text_model_line::with_block(table, blocks, p, values);
     q.ar = kept;
     q.ar_blocks = blocks + 1;
-    q.ar_count = up_to(blocks, p);
+    q.ar_count = text_model_line::up_to(blocks, p);
     let mut next = d;
     next.params = q;
     answered(outcome, d, next)
@@ -415,7 +195,7 @@ fn means(line: &[u8], start: usize, from: usize, d: Draft) -> Step
     if q.means_count != 0 {
         return wrong(Fault::Once, start, d);
     }
-    let row = all_numbers(line, from, d.k);
+    let row = text_model_line::all_numbers(line, from, d.k);
     let outcome = row.outcome;
     let values = row.values;
     q.means = values;
@@ -425,24 +205,6 @@ fn means(line: &[u8], start: usize, from: usize, d: Draft) -> Step
     answered(outcome, d, next)
 }
 
-// One number, or as many as regimes.
-fn one_or_all(line: &[u8], from: usize, n: usize) -> Row
-    requires { ⌜ (from ≤ length (now line)) × (n ≤ 16) ⌝ }
-{
-    let row = numbers(line, from, n);
-    let outcome = row.outcome;
-    match outcome {
-        Outcome::Fine => {
-            if (row.count == 1) | (row.count == n) {
-                return row;
-            }
-            stopped(Fault::OneOr(n), row.end)
-        }
-        Outcome::Wrong(_, _) => row,
-        Outcome::Refused(_) => row,
-    }
-}
-
 fn variances(line: &[u8], start: usize, from: usize, d: Draft) -> Step
     requires { ⌜ (from ≤ length (now line)) × (d .k ≤ 16) ⌝ }
 {
@@ -450,7 +212,7 @@ fn variances(line: &[u8], start: usize, from: usize, d: Draft) -> Step
     if q.variances_count != 0 {
         return wrong(Fault::Once, start, d);
     }
-    let row = one_or_all(line, from, d.k);
+    let row = text_model_line::one_or_all(line, from, d.k);
     let outcome = row.outcome;
     let values = row.values;
     q.variances = values;
@@ -468,9 +230,7 @@ fn by_kind(line: &[u8], start: usize, from: usize, kind: Kind, d: Draft) -> Step
         Kind::Means => means(line, start, from, d),
         Kind::Ar => ar(line, start, from, d),
         Kind::Variances => variances(line, start, from, d),
-        Kind::Regimes => fine(d),
-        Kind::Order => fine(d),
-        Kind::Other => fine(d),
+        _ => fine(d),
     }
 }
 
@@ -495,15 +255,12 @@ pub fn read(line: &[u8], d: Draft) -> Step {
     if a == b {
         return fine(d);
     }
-    let kind = keyword(&line[a..b]);
+    let kind = text_model_line::keyword(&line[a..b]);
     match kind {
         Kind::Regimes => regimes(line, a, b, d),
         Kind::Order => order(line, a, b, d),
         Kind::Other => wrong(Fault::Keyword, a, d),
-        Kind::Transition => numbered(line, a, b, kind, d),
-        Kind::Means => numbered(line, a, b, kind, d),
-        Kind::Ar => numbered(line, a, b, kind, d),
-        Kind::Variances => numbered(line, a, b, kind, d),
+        _ => numbered(line, a, b, kind, d),
     }
 }
 

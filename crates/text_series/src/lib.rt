@@ -2,7 +2,7 @@
 // Places in a line count from 0, and so do columns.
 ghost use Prim.Native.Nat.{_≤_};
 ghost use lib.ListN.{length};
-use text_decimal::Parsed;
+use text_decimal_read::Parsed;
 use text_words::Found;
 
 // Where a line's reading stands: it is all of the line, or the cell with this number, or the cell under a name that was not met yet.
@@ -38,16 +38,6 @@ pub enum Item {
     Wrong(Fault, usize),
 }
 
-// The place of the byte at fault in a piece that starts at `start`.
-fn within(start: usize, end: usize, fault: usize) -> usize
-    requires { ⌜ start ≤ end ⌝ }
-{
-    if fault <= end - start {
-        return start + fault;
-    }
-    start
-}
-
 // The line's word is the reading, and it is the only one.
 fn alone(line: &[u8], start: usize, end: usize) -> Item
     requires { ⌜ (start ≤ end) × (end ≤ length (now line)) ⌝ }
@@ -56,9 +46,9 @@ fn alone(line: &[u8], start: usize, end: usize) -> Item
     if more.start != more.end {
         return Item::Wrong(Fault::OneNumber, more.start);
     }
-    match text_decimal::read(&line[start..end]) {
+    match text_decimal_read::read(&line[start..end]) {
         Parsed::Number(x) => Item::Reading(x),
-        Parsed::Wrong(i) => Item::Wrong(Fault::OneNumber, within(start, end, i)),
+        Parsed::Wrong(i) => Item::Wrong(Fault::OneNumber, text_words::within(start, end, i)),
     }
 }
 
@@ -66,13 +56,13 @@ fn alone(line: &[u8], start: usize, end: usize) -> Item
 fn in_cell(line: &[u8], start: usize, end: usize, first: bool) -> Item
     requires { ⌜ (start ≤ end) × (end ≤ length (now line)) ⌝ }
 {
-    match text_decimal::read(&line[start..end]) {
+    match text_decimal_read::read(&line[start..end]) {
         Parsed::Number(x) => Item::Reading(x),
         Parsed::Wrong(i) => {
             if first {
                 return Item::Header;
             }
-            Item::Wrong(Fault::Number, within(start, end, i))
+            Item::Wrong(Fault::Number, text_words::within(start, end, i))
         }
     }
 }

@@ -23,6 +23,24 @@ pub enum Count {
     Wrong,
 }
 
+// ---- places
+
+pub fn least(a: usize, b: usize) -> usize
+    ensures { λ r. ⌜ (r ≤ a) × (r ≤ b) ⌝ }
+{
+    if a < b { a } else { b }
+}
+
+// The place of the byte at fault in a piece that starts at `start`.
+pub fn within(start: usize, end: usize, fault: usize) -> usize
+    requires { ⌜ start ≤ end ⌝ }
+{
+    if fault <= end - start {
+        return start + fault;
+    }
+    start
+}
+
 // ---- words
 
 // A carriage return is a blank, so that a line may end in one.
@@ -216,12 +234,6 @@ pub fn whole(text: &[u8]) -> Count {
 
 // ---- putting together
 
-fn least(a: usize, b: usize) -> usize
-    ensures { λ r. ⌜ (r ≤ a) × (r ≤ b) ⌝ }
-{
-    if a < b { a } else { b }
-}
-
 // Puts the text behind the first `at` bytes, as far as there is room, and says how many bytes there are then.
 pub fn put(out: &mut [u8], at: usize, text: &[u8]) -> usize
     ensures { λ r. ⌜ Leads r (now (out .exit)) ⌝ }
@@ -233,24 +245,6 @@ pub fn put(out: &mut [u8], at: usize, text: &[u8]) -> usize
             return to;
         }
         out[to] = text[i];
-        to += 1;
-        i += 1;
-    }
-    to
-}
-
-// The same for the first n bytes of a piece by value, which has 32.
-pub fn put_piece(out: &mut [u8], at: usize, piece: [u8; 32], n: usize) -> usize
-    ensures { λ r. ⌜ Leads r (now (out .exit)) ⌝ }
-{
-    let count = least(n, 32);
-    let mut to = least(at, out.len());
-    let mut i = 0;
-    while i < count {
-        if to >= out.len() {
-            return to;
-        }
-        out[to] = piece[i];
         to += 1;
         i += 1;
     }

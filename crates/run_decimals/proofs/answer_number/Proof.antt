@@ -1,5 +1,6 @@
+-- `run_decimals::answer_number` is safe: the text is no longer than its bytes.
 use borrow.Author.Needs.{needs}
-use Rattle.text_decimal.proofs.Bytes.{written-part}
+use Rattle.text_decimal_write.proofs.Bytes.{written-part}
 use Rattle.run_decimals.proofs.answer_number.Statement.{statement}
 use Rattle.run_decimals.proofs.answer_number.Tie as tie
 

@@ -1,3 +1,4 @@
+-- `run_decimals::main` is safe and ends. The measure is the count of lines that may come.
 use Prim.Native.Nat.{_-_, _≤_}
 use borrow.Author.Needs.{needs}
 use Rattle.run_decimals.proofs.main.Statement.{statement}

@@ -1,3 +1,4 @@
+-- `run_decimals::text_length` meets its contract. The measure is the count of bytes to come.
 use Prim.Native.Nat.{_-_, _≤_}
 use borrow.Author.Needs.{needs}
 use Rattle.run_decimals.proofs.text_length.Statement.{statement}

@@ -1,42 +1,55 @@
+-- `text_limbs::cut_off` meets its contract: what is left stands in three limbs, and nothing wraps.
 use Prim.Native.Nat.{ℕ, _+_, _/_}
 use mathlib.Core.Path.{sym, ap, _∙_}
 use native.Mathlib.Omega.{arith}
 use borrow.Author.Needs.{needs}
 use mathlib.Core.Bool.{not}
 use lib.Dec.{eqb}
-use Rattle.text_limbs.proofs.Lowest.{cut-whole, power-some, rest-some, rest-lower}
+use Rattle.text_limbs.proofs.Lowest.{Parted, parted}
 use Rattle.text_limbs.proofs.cut_off.Statement.{statement}
 use Rattle.text_limbs.proofs.cut_off.Tie as tie
 
+known : (s : tie.After-two-to) → Parted (s .before .args .l .now) (s .before .args .g) (s .two-to .result)
+known s = parted _ _ _ (s .before .pre .0) (s .before .pre .1) (s .two-to .ensures) (s .before .pre .2)
+
 mul-high-2 : tie.Need-mul-high-2
-mul-high-2 c = omega (arith, c .before .before .pre .0 .small (c .before .before .args .g / 32 + 2))
+mul-high-2 c =
+    let s = c .before .before in
+    omega (arith, s .pre .0 .small (s .args .g / 32 + 2))
 
 add-high-3 : tie.Need-add-high-3
-add-high-3 c = omega (arith, c .before .before .before .pre .0 .small (c .before .before .before .args .g / 32 + 2), c .before .before .before .pre .0 .small (c .before .before .before .args .g / 32 + 1))
+add-high-3 c =
+    let s = c .before .before .before in
+    omega (arith, s .pre .0 .small (s .args .g / 32 + 2), s .pre .0 .small (s .args .g / 32 + 1))
 
 div-whole : tie.Need-div-whole
-div-whole c = power-some (c .before .before .before .args .l .now) (c .before .before .before .args .g) (c .before .before .two-to .result) (c .before .before .before .pre .0) (c .before .before .before .pre .1) (c .before .before .two-to .ensures)
+div-whole c = known (c .before .before) .power
 
 mul-whole : tie.Need-mul-whole
-mul-whole c = omega (arith, cut-whole (c .before .before .before .args .l .now) (c .before .before .before .args .g) (c .before .before .two-to .result) (c .before .before .before .pre .0) (c .before .before .before .pre .1) (c .before .before .two-to .ensures) (c .before .before .before .pre .2), c .before .before .before .pre .2)
+mul-whole c =
+    let s = c .before .before in
+    omega (arith, known s .whole, s .before .pre .2)
 
 div-whole-2 : tie.Need-div-whole-2
-div-whole-2 c = power-some (c .before .before .before .before .args .l .now) (c .before .before .before .before .args .g) (c .before .before .before .two-to .result) (c .before .before .before .before .pre .0) (c .before .before .before .before .pre .1) (c .before .before .before .two-to .ensures)
+div-whole-2 c = known (c .before .before .before) .power
 
 add-whole : tie.Need-add-whole
-add-whole c = omega (arith, cut-whole (c .before .before .before .before .args .l .now) (c .before .before .before .before .args .g) (c .before .before .before .two-to .result) (c .before .before .before .before .pre .0) (c .before .before .before .before .pre .1) (c .before .before .before .two-to .ensures) (c .before .before .before .before .pre .2), c .before .before .before .before .pre .2)
+add-whole c =
+    let s = c .before .before .before in
+    omega (arith, known s .whole, s .before .pre .2)
 
 rem-if1 : tie.Need-rem-if1
-rem-if1 c = power-some (c .before .before .before .before .before .args .l .now) (c .before .before .before .before .before .args .g) (c .before .before .before .before .two-to .result) (c .before .before .before .before .before .pre .0) (c .before .before .before .before .before .pre .1) (c .before .before .before .before .two-to .ensures)
+rem-if1 c = known (c .before .before .before .before) .power
 
 returns : tie.Need-returns
-returns c = (cut-whole (c .before .before .before .before .before .before .args .l .now) (c .before .before .before .before .before .before .args .g) (c .before .before .before .before .before .two-to .result) (c .before .before .before .before .before .before .pre .0) (c .before .before .before .before .before .before .pre .1) (c .before .before .before .before .before .two-to .ensures) (c .before .before .before .before .before .before .pre .2), rest-some (c .before .before .before .before .before .before .args .l .now) (c .before .before .before .before .before .before .args .g) (c .before .before .before .before .before .two-to .result) (c .before .before .before .before .before .before .pre .0) (c .before .before .before .before .before .before .pre .1) (c .before .before .before .before .before .two-to .ensures) (c .if1 .taken))
+returns c =
+    let k = known (c .before .before .before .before .before) in
+    (k .whole, k .some (c .if1 .taken))
 
 returns-2 : tie.Need-returns-2
-returns-2 c = (
-  cut-whole (c .before .before .before .before .before .before .before .args .l .now) (c .before .before .before .before .before .before .before .args .g) (c .before .before .before .before .before .before .two-to .result) (c .before .before .before .before .before .before .before .pre .0) (c .before .before .before .before .before .before .before .pre .1) (c .before .before .before .before .before .before .two-to .ensures) (c .before .before .before .before .before .before .before .pre .2),
-  c .some .ensures ∙ ap (λ (x : ℕ). not (eqb x 0)) (sym (rest-lower (c .before .before .before .before .before .before .before .args .l .now) (c .before .before .before .before .before .before .before .args .g) (c .before .before .before .before .before .before .two-to .result) (c .before .before .before .before .before .before .before .pre .0) (c .before .before .before .before .before .before .before .pre .1) (c .before .before .before .before .before .before .two-to .ensures) (c .before .if1 .left))),
-)
+returns-2 c =
+    let k = known (c .before .before .before .before .before .before) in
+    (k .whole, c .some .ensures ∙ ap (λ (x : ℕ). not (eqb x 0)) (sym (k .none (c .before .if1 .left))))
 
 pub cut-off-spec : {M : Type 1} → statement M
 cut-off-spec =

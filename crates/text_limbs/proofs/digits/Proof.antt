@@ -1,3 +1,4 @@
+-- `text_limbs::digits` meets its contract: the highest limb that is not zero tells how many digits there are.
 use Prim.Native.Nat.{ℕ, _-_, _<_}
 use mathlib.Core.Path.{_≡_, sym, ap, subst, _∙_}
 use native.Mathlib.Omega.{arith}

@@ -1,3 +1,4 @@
+-- `text_limbs::over` meets its contract: long division from the highest limb down. The measure is the count of limbs to come.
 use Prim.Native.Nat.{_-_}
 use native.Mathlib.Omega.{arith}
 use borrow.Author.Needs.{needs}

@@ -1,3 +1,4 @@
+-- `text_limbs::placed` meets its contract: the digits stand in three limbs, and nothing wraps.
 use Prim.Native.Nat.{_/_, _%_}
 use native.Mathlib.Omega.{arith}
 use borrow.Author.Needs.{needs}

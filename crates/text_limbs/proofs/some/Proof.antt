@@ -1,3 +1,4 @@
+-- `text_limbs::some` meets its contract: every limb passed is zero. The measure is the count of limbs to come.
 use Prim.Native.Nat.{ℕ, _-_, _≤_}
 use mathlib.Core.Path.{_≡_, sym, subst}
 use native.Mathlib.Omega.{arith}

@@ -1,3 +1,4 @@
+-- `text_limbs::times` meets its contract: each limb times m, and what the ones below carry. The measure is the count of limbs to come.
 use Prim.Native.Nat.{_-_}
 use borrow.Author.Needs.{needs}
 use native.Mathlib.Numerals.{add-one}

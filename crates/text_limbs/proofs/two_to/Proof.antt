@@ -1,3 +1,4 @@
+-- `text_limbs::two_to` meets its contract: a shift of one is a power of two.
 use mathlib.Core.Path.{_∙_}
 use native.Mathlib.Omega.{arith}
 use lib.Pow.{shl-exact}

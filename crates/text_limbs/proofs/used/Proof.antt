@@ -1,3 +1,4 @@
+-- `text_limbs::used` meets its contract: every limb above is zero. The measure is the count of limbs to come.
 use Prim.Native.Nat.{ℕ, _≤_}
 use mathlib.Core.Path.{_≡_, subst}
 use native.Mathlib.Omega.{arith}

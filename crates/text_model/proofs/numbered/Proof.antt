@@ -1,4 +1,4 @@
--- `model_text::numbered` is safe: a shape that passed its check holds no more than 16 regimes of order 7.
+-- `text_model::numbered` is safe: a shape that passed its check holds no more than 16 regimes of order 7.
 use mathlib.Core.Path.{subst}
 use borrow.Author.Needs.{needs}
 use Rattle.text_model.specs.Shaped.{Held}

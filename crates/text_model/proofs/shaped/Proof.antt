@@ -1,4 +1,4 @@
--- `model_text::shaped` meets its contract, by what the window count says of a shape that it counts.
+-- `text_model::shaped` meets its contract, by what the window count says of a shape that it counts.
 use mathlib.Core.Path.{sym, _∙_}
 use borrow.Author.Needs.{needs}
 use Rattle.spec.specs.Spec.{specCheck, windowCount}

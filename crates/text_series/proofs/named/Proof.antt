@@ -1,4 +1,4 @@
--- `series_text::named` is safe and ends: a cell that is found ends within the line. The measure is the count of cells that the line may still have.
+-- `text_series::named` is safe and ends: a cell that is found ends within the line. The measure is the count of cells that the line may still have.
 use Prim.Native.Nat.{suc, _≤_, _-_}
 use lib.ListN.{length}
 use mathlib.Core.Path.{subst}

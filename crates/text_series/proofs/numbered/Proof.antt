@@ -1,4 +1,4 @@
--- `series_text::numbered` is safe: a cell that is found ends within the line.
+-- `text_series::numbered` is safe: a cell that is found ends within the line.
 use mathlib.Core.Path.{subst}
 use borrow.Author.Needs.{needs}
 use Rattle.text_words.specs.Places.{Inside}

@@ -1,4 +1,4 @@
--- `text::before_blanks` meets its contract. The measure is how far the end lies from the start.
+-- `text_words::before_blanks` meets its contract. The measure is how far the end lies from the start.
 use Prim.Native.Nat.{_≤_, _-_}
 use borrow.Author.Needs.{needs}
 use Rattle.text_words.proofs.before_blanks.Statement.{statement}

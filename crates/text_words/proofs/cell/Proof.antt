@@ -1,4 +1,4 @@
--- `text::cell` meets its contract. The measure is the count of cells to pass.
+-- `text_words::cell` meets its contract. The measure is the count of cells to pass.
 use Prim.Native.Nat.{_≤_, _-_}
 use lib.ListN.{length}
 use borrow.Author.Needs.{needs}

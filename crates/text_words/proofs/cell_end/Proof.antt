@@ -1,4 +1,4 @@
--- `text::cell_end` meets its contract. The measure is what is left of the line.
+-- `text_words::cell_end` meets its contract. The measure is what is left of the line.
 use Prim.Native.Nat.{_≤_, _-_}
 use lib.ListN.{length}
 use borrow.Author.Needs.{needs}

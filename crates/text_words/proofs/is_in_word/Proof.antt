@@ -1,4 +1,4 @@
--- `text::is_in_word` meets its contract, by what is a blank.
+-- `text_words::is_in_word` meets its contract, by what is a blank.
 use mathlib.Core.Path.{ap}
 use mathlib.Core.Bool.{Bool, not, _&&_}
 use borrow.Author.Needs.{needs}

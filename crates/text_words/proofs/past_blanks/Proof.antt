@@ -1,36 +1,29 @@
--- `text::past_blanks` meets its contract: every place passed holds a blank. The measure is what is left of the line.
-use Prim.Native.Nat.{_≤_, _-_}
-use mathlib.Core.Path.{_≡_, refl, sym, _∙_}
+-- `text_words::past_blanks` meets its contract: every place passed holds a blank. The measure is what is left of the line.
+use Prim.Native.Nat.{_-_}
+use mathlib.Core.Path.{refl, sym, _∙_}
 use borrow.Author.Tests.{not-true, not-false}
-use lib.ListN.{length}
-use Rattle.text_words.specs.Words.{isBlank, past}
-use Rattle.text_words.proofs.Past.{here, onwards, at-end}
 use borrow.Author.Needs.{needs}
+use lib.ListN.{length}
+use Rattle.text_words.specs.Words.{isBlank}
+use Rattle.text_words.proofs.Past.{Passed, found, one-on, ended}
 use Rattle.text_words.proofs.past_blanks.Statement.{statement}
 use Rattle.text_words.proofs.past_blanks.Tie as tie
 
 abbrev Inv-loop : tie.InvT-loop
-Inv-loop line from i₀ i = (from ≤ i) × (i ≤ length line) × (past isBlank line i ≡ past isBlank line from)
+Inv-loop line from i₀ i = Passed isBlank line from i
 
 abbrev μ-loop : tie.MeasureT-loop
 μ-loop line from i₀ i = length line - i
 
-loop-holds : tie.Need-loop-holds Inv-loop μ-loop
-loop-holds c = (search needs, search needs, refl)
-
 returns : tie.Need-returns Inv-loop μ-loop
 returns c =
-    let inv = c .before .before .before .before .loop .inv in
-    ((search needs, search needs), sym (here _ _ _ (c .before .before .before .loop-test .taken) (sym (c .before .is-blank .ensures) ∙ not-true _ (c .if1 .taken))) ∙ inv .2)
+    let at-loop = c .before .before .before in
+    found _ _ _ _ (at-loop .before .loop .inv) (at-loop .loop-test .taken) (sym (c .before .is-blank .ensures) ∙ not-true _ (c .if1 .taken))
 
 loop-again : tie.Need-loop-again Inv-loop μ-loop
 loop-again c =
-    let inv = c .before .before .before .before .loop .inv in
-    (search needs, search needs, sym (onwards _ _ _ (c .before .before .before .loop-test .taken) (sym (c .before .is-blank .ensures) ∙ not-false _ (c .if1 .left))) ∙ inv .2)
-
-returns-2 : tie.Need-returns-2 Inv-loop μ-loop
-returns-2 c =
-    ((search needs, search needs), sym (at-end _ _ _ (c .loop-test .left)) ∙ c .before .loop .inv .2)
+    let at-loop = c .before .before .before in
+    one-on _ _ _ _ (at-loop .before .loop .inv) (at-loop .loop-test .taken) (sym (c .before .is-blank .ensures) ∙ not-false _ (c .if1 .left))
 
 pub past-blanks-spec : {M : Type 1} → statement M
 past-blanks-spec =
@@ -38,11 +31,11 @@ past-blanks-spec =
     (tie.spec
     Inv-loop
     μ-loop
-    loop-holds
+    (λ c. (search needs, search needs, refl))
     (λ c. search needs)
     (λ c κs. search needs)
     returns
     (λ c. search needs)
     (λ c. search needs)
     loop-again
-    returns-2)
+    (λ c. ended _ _ _ _ (c .before .loop .inv) (c .loop-test .left)))

@@ -1,4 +1,4 @@
--- `text::put` meets its contract. The measure is the count of bytes to come.
+-- `text_words::put` meets its contract. The measure is the count of bytes to come.
 use Prim.Native.Nat.{_≤_, _-_}
 use mathlib.Core.Path.{_≡_, sym}
 use lib.ListN.{length}

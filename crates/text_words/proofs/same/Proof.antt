@@ -1,4 +1,4 @@
--- `text::same` is safe and ends. The measure is the count of bytes to come.
+-- `text_words::same` is safe and ends. The measure is the count of bytes to come.
 use Prim.Native.Nat.{_≤_, _-_}
 use lib.ListN.{length}
 use borrow.Author.Needs.{needs}

@@ -1,4 +1,4 @@
--- `text::whole` is safe and ends: a number of nine digits fits. The measure is the count of digits to come.
+-- `text_words::whole` is safe and ends: a number of nine digits fits. The measure is the count of digits to come.
 use Prim.Native.Nat.{_≤_, _-_}
 use lib.ListN.{length}
 use borrow.Author.Needs.{needs}

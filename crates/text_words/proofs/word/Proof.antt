@@ -1,4 +1,4 @@
--- `text::word` meets its contract: it starts past the blanks and ends where it ends.
+-- `text_words::word` meets its contract: it starts past the blanks and ends where it ends.
 use borrow.Author.Needs.{needs}
 use Rattle.text_words.specs.Words.{wordFrom}
 use Rattle.text_words.proofs.word.Statement.{statement}
