@@ -9,7 +9,7 @@ use native.Mathlib.Omega.{arith}
 use lib.Arith.{digits-lt, digits-div, digits-mod}
 use lib.ListN.{length, drop, replicate}
 use lib.Ieee.{Float}
-use Rattle.number.specs.Number.{_⊕_, _⊖_, _⊗_, zero⁺}
+use Rattle.number.specs.Number.{zero⁺}
 use Rattle.number.specs.Table.{_!_, fillAt}
 use Rattle.number.proofs.Table.{fillAt-ext, fillAt-rest, fillAt-over, fill-at, fill-is}
 use Rattle.window.specs.Windows.{label, labels}
@@ -20,7 +20,7 @@ use Rattle.window.proofs.Table.{order-at-most-7}
 use Rattle.params.specs.declared.MsarParams.{MsarParams}
 use Rattle.params.specs.Parameters.{k, p, φ, blockOf}
 use Rattle.density.specs.Density.{meanTo}
-use Rattle.density.specs.Steps.{meanAt, lagsTo, phisFrom, phisOf, laggedAt, Parts}
+use Rattle.density.specs.Steps.{meanAt, lagsTo, phisFrom, laggedAt, Parts}
 
 -- ---- the row with l lags, from the row `first` that has a number for each label now
 

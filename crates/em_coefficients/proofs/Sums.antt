@@ -2,14 +2,13 @@
 -- places does not count. Assumes nothing.
 use Prim.Native.Nat.{ℕ, suc, _+_, _-_, _*_, _/_, _%_, _^_, _<_, _≤_}
 use mathlib.Core.Path.{_≡_, refl, _∙_}
-use mathlib.Core.Bool.{_&&_}
 use mathlib.Core.List.{List}
 use native.Mathlib.Nat.{mod-lt, div-lt-iff-lt-mul, mul-pos}
 use native.Mathlib.Omega.{arith}
 use lib.Arith.{digits-lt, digits-div, digits-mod}
 use lib.ListN.{length, replicate}
 use lib.Ieee.{Float, ne}
-use Rattle.number.specs.Number.{if_then_else_, _=?_, _⊗_, _⊘_, zero⁺}
+use Rattle.number.specs.Number.{if_then_else_, _⊗_, zero⁺}
 use Rattle.number.specs.Table.{_!_, fillAt}
 use Rattle.number.proofs.Sums.{where-ext}
 use Rattle.number.proofs.Table.{fillAt-ext, fill-at, fill-long}

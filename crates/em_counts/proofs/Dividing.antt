@@ -1,11 +1,10 @@
 -- The new table: cells divided by their columns, and that these are the definition's. Assumes nothing.
-use Prim.Native.Nat.{ℕ, zero, suc, _+_, _*_, _/_, _%_, _^_, _<_}
+use Prim.Native.Nat.{ℕ, zero, suc, _*_, _/_, _%_, _^_, _<_}
 use mathlib.Core.Path.{_≡_, refl, sym, _∙_}
 use mathlib.Core.Bool.{true, false}
 use mathlib.Core.List.{List}
 use native.Mathlib.Nat.{pow-suc, pow-zero, one-mul, mod-lt, div-add-mod', mul-assoc}
 use native.Mathlib.Omega.{arith}
-use lib.Arith.{digits-div}
 use lib.ListN.{replicate}
 use lib.Ieee.{Float, le}
 use Rattle.number.specs.Number.{_⊘_, zero⁺}

@@ -4,11 +4,10 @@ use mathlib.Core.Path.{_≡_, refl, _∙_}
 use mathlib.Core.Bool.{Bool, true, false, _&&_}
 use mathlib.Core.List.{List}
 use native.Mathlib.Nat.{mod-lt, div-lt-iff-lt-mul, mul-le-mul, le-refl}
-use native.Mathlib.Omega.{arith}
-use lib.Arith.{digits-div, digits-mod}
+use lib.Arith.{digits-div}
 use lib.ListN.{length, replicate}
 use lib.Ieee.{Float, neg, ne, sub}
-use Rattle.number.specs.Number.{if_then_else_, _⊕_, _⊖_, _⊗_, _⊘_, zero⁺}
+use Rattle.number.specs.Number.{if_then_else_, _⊕_, _⊖_, _⊘_, zero⁺}
 use Rattle.number.specs.Table.{_!_, fillAt}
 use Rattle.number.proofs.Sums.{where-ext}
 use Rattle.number.proofs.Table.{fillAt-ext, fill-at, fill-long}
@@ -24,7 +23,7 @@ use Rattle.density.specs.Steps.{variancesFrom, phisFrom, phisOf}
 use Rattle.density.proofs.Tables.{variances-at}
 use Rattle.em_ridge.specs.Ridge.{solveOrKeep}
 use Rattle.em_ridge.specs.declared.Update.{Update}
-use Rattle.em_means.specs.Means.{dTo, α, sensitive, meansCell, meansSide, newMeans}
+use Rattle.em_means.specs.Means.{dTo, sensitive, meansCell, meansSide, newMeans}
 use Rattle.em_means.specs.Steps.{sensitivityTo, sensitivitiesOf, lessLagsAt, lessLagsIn, cellAdded, sideAdded, cellSeen, sideSeen, felt, cellTerm, sideTerm, Summed, meansBy}
 use Rattle.em_means.proofs.Lags.{sensitivity-at, sensitivity-is, less-lags-is}
 

@@ -1,10 +1,10 @@
 -- The sums that the code makes place by place are those of the definition, and so are the variances that they give; and what the rows hold past their
 -- first m places does not count. Assumes nothing.
 use Prim.Native.Nat.{ℕ, zero, suc, _+_, _*_, _/_, _%_, _^_, _<_, _≤_}
-use mathlib.Core.Path.{_≡_, refl, sym, ap, _∙_}
+use mathlib.Core.Path.{_≡_, refl, sym, _∙_}
 use mathlib.Core.Bool.{_&&_}
 use mathlib.Core.List.{List}
-use native.Mathlib.Nat.{sub-zero, mod-lt, mul-le-mul, le-refl}
+use native.Mathlib.Nat.{sub-zero, mul-le-mul, le-refl}
 use native.Mathlib.Omega.{arith}
 use lib.Arith.{digits-lt, digits-div, digits-mod}
 use lib.ListN.{length, set, replicate}
@@ -13,12 +13,12 @@ use Rattle.number.specs.Number.{if_then_else_, _=?_, _⊕_, _⊖_, _⊗_, zero�
 use Rattle.number.specs.Table.{_!_, fillAt}
 use Rattle.number.proofs.Sums.{where-ext}
 use Rattle.number.proofs.Table.{fillAt-ext, fill-at, fill-long}
-use Rattle.window.specs.Windows.{label, labels}
+use Rattle.window.specs.Windows.{labels}
 use Rattle.window.proofs.Windows.{label-below}
 use Rattle.params.specs.declared.MsarParams.{MsarParams}
 use Rattle.params.specs.Parameters.{k, p, φ, blockOf}
 use Rattle.rows.specs.Rows.{Same, windowsOf}
-use Rattle.rows.specs.Smoothed.{rowsIn, places, labelAt, timeAt, weightAt}
+use Rattle.rows.specs.Smoothed.{rowsIn, places, labelAt}
 use Rattle.rows.specs.Steps.{cellAt, countsFor}
 use Rattle.rows.proofs.Cells.{cells-none, cells-if}
 use Rattle.rows.proofs.ByPlace.{counts-in}

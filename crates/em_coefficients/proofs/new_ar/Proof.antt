@@ -1,5 +1,5 @@
 -- The new coefficients: all rows summed, then solved block by block.
-use Prim.Native.Nat.{suc, _+_, _*_, _-_, _^_, _<_, _≤_}
+use Prim.Native.Nat.{suc, _*_, _-_, _^_, _≤_}
 use mathlib.Core.Path.{_≡_}
 use native.Mathlib.Numerals.{add-one}
 use native.Mathlib.Nat.{zero-mul, suc-mul, pow-suc}

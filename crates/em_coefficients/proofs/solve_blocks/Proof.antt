@@ -1,7 +1,6 @@
 -- The blocks are solved in order, up to the first that is refused.
 use Prim.Native.Nat.{_+_, _*_, _-_, _<_, _≤_}
 use mathlib.Core.Path.{_≡_, _∙_}
-use mathlib.Core.List.{List}
 use native.Mathlib.Omega.{arith}
 use borrow.Author.Needs.{needs}
 use lib.ListN.{length}

@@ -1,5 +1,5 @@
 -- The new variances: all rows summed, then divided block by block.
-use Prim.Native.Nat.{suc, _+_, _*_, _-_, _^_, _<_, _≤_}
+use Prim.Native.Nat.{suc, _*_, _-_, _^_, _≤_}
 use mathlib.Core.Path.{_≡_, ap, _∙_}
 use native.Mathlib.Numerals.{add-one}
 use native.Mathlib.Nat.{zero-mul, suc-mul, pow-suc}
