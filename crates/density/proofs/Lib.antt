@@ -1,7 +1,7 @@
 -- rows filled in part: by their own numbers, in front of a filled part, again and again
 pub mod Rows
--- deviations and their logarithms
-mod Tables
+-- variances by label, deviations and their logarithms
+pub mod Tables
 -- one lag more, block by block
 pub mod Lags
 -- the means of a row, lag by lag

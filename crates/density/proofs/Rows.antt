@@ -1,25 +1,21 @@
 -- Laws of rows filled in part: by the numbers that stand there, in front of a part that is filled, and a first part again and again.
 -- Assumes nothing.
-use Prim.Native.Nat.{ℕ, zero, suc, _+_, _-_, _%_, _<_, _≤_}
-use mathlib.Core.Path.{_≡_, sym, ap, _∙_}
+use Prim.Native.Nat.{ℕ, _+_, _-_, _%_, _<_, _≤_}
+use mathlib.Core.Path.{_≡_, refl, sym, ap, _∙_}
 use mathlib.Core.Logic.{_⊎_, ⊎-elim}
 use mathlib.Core.List.{List, _++_, append-assoc}
-use native.Mathlib.Numerals.{add-one}
 use native.Mathlib.Nat.{zero-add, mod-lt, mod-eq-of-lt, mod-eq-sub-mod}
 use native.Mathlib.Omega.{arith}
 use lib.ListN.{length, take, drop}
-use lib.Seq.{length-take-le, set-getD, take-append-le, take-take, drop-at}
-use lib.Ieee.{Float, nan}
+use lib.Seq.{length-take-le, take-append-le, take-take, drop-at}
+use lib.Ieee.{Float}
 use Rattle.number.specs.Number.{_⊕_, _⊗_}
 use Rattle.number.specs.Table.{_!_, tab, fillAt}
-use Rattle.number.proofs.Table.{fillAt-none, fillAt-ext, fillAt-at, fillAt-before, fillAt-past, fillAt-rest, fillAt-over, fill-more, tab-join}
+use Rattle.number.proofs.Table.{fillAt-ext, fillAt-at, fillAt-before, fillAt-past, fillAt-rest, fillAt-over, fill-is, tab-join}
 
 -- a row filled with its own numbers is itself
 pub fill-own : (f : ℕ → Float) (n : ℕ) (l : List Float) → ((i : ℕ) → i < n → f i ≡ l ! i) → n ≤ length l → l ≡ fillAt 0 f n l
-fill-own f zero l h k = fillAt-none 0 f l
-fill-own f (suc n) l h k =
-    sym (set-getD l n nan)
-    ∙ rw (add-one n) at (fill-more f n l (fill-own f n l (λ i j. h i (omega arith)) (omega arith)) (sym (h n (omega arith))) (omega arith))
+fill-own f n l h k = fill-is f n l k refl (λ i j. sym (h i j)) (λ _ _. refl)
 
 -- a part filled, and then the places in front of it: one part
 pub fillAt-front : (s : ℕ) (f g : ℕ → Float) (n c : ℕ) (l : List Float) {m : List Float} → m ≡ fillAt (s + n) g c l → s + n ≤ length l

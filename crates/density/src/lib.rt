@@ -8,25 +8,36 @@ ghost use lib.ListN.{length, replicate};
 ghost use Rattle.number.specs.Number.{_⊕_, _⊗_, zero⁺};
 ghost use Rattle.number.specs.Sums.{sumUp};
 ghost use Rattle.number.specs.Table.{_!_, fillAt};
-ghost use Rattle.root.specs.Root.{rootOf};
 ghost use Rattle.window.specs.Shape.{Shape};
 ghost use Rattle.params.specs.declared.MsarParams.{MsarParams};
-ghost use Rattle.params.specs.Parameters.{k, p, φ, variance};
-ghost use Rattle.density.specs.Steps.{deviationAt, logAt, meanAt, weightAt, phisOf, laggedAt, Parts};
+ghost use Rattle.window.specs.Windows.{labels};
+ghost use Rattle.params.specs.Parameters.{k, p, blockOf};
+ghost use Rattle.density.specs.Steps.{variancesFrom, deviationAt, logAt, meanAt, lagsTo, weightAt, phisFrom, phisOf, laggedAt, Parts};
 use params::MsarParams;
 use window::Time;
 
 // ---- once a call
 
-// The standard deviation of label s.
-fn deviation(q: MsarParams, s: usize) -> f64
-    requires { ⌜ s < 16 ⌝ }
-    ensures { λ r. ⌜ r ≡ rootOf (variance q s) ⌝ }
+// What is counted once is shared by all labels.
+pub fn block_of(count: usize, s: usize) -> usize
+    ensures { λ r. ⌜ r ≡ blockOf count s ⌝ }
 {
-    if q.variances_count == 1 {
-        return root::root(q.variances[0]);
+    if count == 1 {
+        return 0;
     }
-    root::root(q.variances[s])
+    s
+}
+
+// The variances by label.
+pub fn variances(own: &[f64; 16], count: usize, k: usize) -> [f64; 16]
+    requires { ⌜ k ≤ 16 ⌝ }
+    ensures { λ r. ⌜ r ≡ variancesFrom (now (own .entry)) count k ⌝ }
+{
+    let mut row = [0.0; 16];
+    for s in 0..k {
+        row[s] = own[block_of(count, s)];
+    }
+    row
 }
 
 // The first k places again and again, up to m.
@@ -47,9 +58,10 @@ pub fn deviations(q: MsarParams, m: usize) -> [f64; 256]
     ensures { λ r. ⌜ r ≡ fillAt 0 (deviationAt q) m (replicate 256 zero⁺) ⌝ }
 {
     let k = q.means_count;
+    let own = variances(&q.variances, q.variances_count, k);
     let mut row = [0.0; 256];
     for s in 0..k {
-        row[s] = deviation(q, s);
+        row[s] = root::root(own[s]);
     }
     repeat(&mut row, k, m);
     row
@@ -68,31 +80,24 @@ pub fn logarithms(deviations: &[f64; 256], k: usize, m: usize) -> [f64; 256]
     row
 }
 
-// φ_(l+1) of label s.
-fn phi(q: MsarParams, s: usize, l: usize) -> f64
-    requires { ⌜ (s < 16) × (l < p q) × (p q ≤ 7) ⌝ }
-    ensures { λ r. ⌜ r ≡ φ q s (suc l) ⌝ }
+// The coefficients by lag and label.
+pub fn phis_of(ar: &[f64; 112], blocks: usize, k: usize, order: usize) -> [f64; 112]
+    requires { ⌜ (0 < k) × (k ≤ 16) × (order ≤ 7) ⌝ }
+    ensures { λ r. ⌜ r ≡ phisFrom (now (ar .entry)) blocks k order ⌝ }
 {
-    if q.ar_blocks == 1 {
-        return q.ar[l];
+    let mut row = [0.0; 112];
+    for e in 0..order * k {
+        row[e] = ar[block_of(blocks, e % k) * order + e / k];
     }
-    q.ar[s * q.order + l]
+    row
 }
 
-// The coefficients by lag and label.
+// The same of parameters.
 pub fn phis(q: MsarParams) -> [f64; 112]
     requires { ⌜ (0 < k q) × (k q ≤ 16) × (p q ≤ 7) ⌝ }
     ensures { λ r. ⌜ r ≡ phisOf q ⌝ }
 {
-    let k = q.means_count;
-    let order = q.order;
-    let mut row = [0.0; 112];
-    let mut e = 0;
-    while e < order * k {
-        row[e] = phi(q, e % k, e / k);
-        e += 1;
-    }
-    row
+    phis_of(&q.ar, q.ar_blocks, q.means_count, q.order)
 }
 
 // ---- once a row
@@ -148,6 +153,29 @@ fn lag(
     }
 }
 
+// The lags of all windows before time t, lag by lag, on what the row holds for each label now.
+pub fn add_lags(
+    means: &[f64; 16],
+    phis: &[f64; 112],
+    k: usize,
+    order: usize,
+    y: &[f64],
+    t: Time,
+    row: &mut [f64; 256],
+)
+    requires { ⌜ Shape k order ⌝ }
+    requires { ⌜ (order ≤ t .0) × (t .0 < length (now y)) × (length (now row) ≡ 256) ⌝ }
+    ensures { λ _. ⌜ now (row .exit) ≡ fillAt 0 (λ a. lagsTo (λ s. now (row .entry) ! s) k (now (phis .entry)) (now (means .entry)) (now (y .entry)) (t .0) (labels k (suc order) a) order) (k ^ suc order) (now (row .entry)) ⌝ }
+{
+    let at = t.0;
+    let mut step = k;
+    for l in 0..order {
+        let lag_at = at - l - 1;
+        lag(row, phis, means, y[lag_at], l * k, k, step);
+        step = step * k;
+    }
+}
+
 // The means of all windows for the reading at time t.
 pub fn means_row(
     means: &[f64; 16],
@@ -163,13 +191,7 @@ pub fn means_row(
     ensures { λ _. ⌜ ((q : MsarParams) → Parts q k order (now (means .entry)) (now (phis .entry)) → now (row .exit) ≡ fillAt 0 (meanAt q (now (y .entry)) t order) (k ^ suc order) (now (row .entry))) ⌝ }
 {
     start(row, means, k);
-    let at = t.0;
-    let mut step = k;
-    for l in 0..order {
-        let lag_at = at - l - 1;
-        lag(row, phis, means, y[lag_at], l * k, k, step);
-        step = step * k;
-    }
+    add_lags(means, phis, k, order, y, t, row);
 }
 
 // Prediction × density for each window, and the sum of these weights.

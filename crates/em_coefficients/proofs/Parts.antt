@@ -90,23 +90,23 @@ added-ext : (b n : ℕ) (f g : ℕ → Float) (l : List Float) → ((c : ℕ) �
 unfolding addedTo
 added-ext b n f g l h = fillAt-ext (b * n) _ n l _ (λ c i. rw (h c i))
 
-module _ (order : ℕ) (pos : 0 < order) (g : Float) (s count blocks : ℕ) (variances : List Float) (d : ℕ → Float) (x₀ : List Float) (l : List Float) {o b : ℕ} {x l′ : List Float}
-    (t : ne g zero⁺ ≡ true) (eo : o ≡ blockOf count s) (eb : b ≡ blockOf blocks s) (ex : x ≡ fillAt 0 d (order + 1) x₀) where
-  pub window-table : l′ ≡ addedTo b (order * order) (tableTerm order (g ⊘ variances ! o) (λ i. x ! i)) l
-      → l′ ≡ (if ne g zero⁺ then addedTo (blockOf blocks s) (order * order) (tableTerm order (g ⊘ variances ! blockOf count s) d) l else l)
+module _ (order : ℕ) (pos : 0 < order) (g v : Float) (s blocks : ℕ) (d : ℕ → Float) (x₀ : List Float) (l : List Float) {b : ℕ} {x l′ : List Float}
+    (t : ne g zero⁺ ≡ true) (eb : b ≡ blockOf blocks s) (ex : x ≡ fillAt 0 d (order + 1) x₀) where
+  pub window-table : l′ ≡ addedTo b (order * order) (tableTerm order (g ⊘ v) (λ i. x ! i)) l
+      → l′ ≡ (if ne g zero⁺ then addedTo (blockOf blocks s) (order * order) (tableTerm order (g ⊘ v) d) l else l)
   unfolding tableTerm
   window-table e =
       rw t
-      (rw (eo, eb) at e
+      (rw eb at e
       ∙ added-ext _ (order * order) _ _ l
       (λ c h. rw (fill-at d (order + 1) x₀ ex (suc (c / order)) (let u : c / order < order = div-lt-iff-lt-mul pos .1 h in omega arith), fill-at d (order + 1) x₀ ex (suc (c % order)) (omega (arith, mod-lt c pos)))))
 
-  pub window-side : l′ ≡ addedTo b order (sideTerm (g ⊘ variances ! o) (λ i. x ! i)) l
-      → l′ ≡ (if ne g zero⁺ then addedTo (blockOf blocks s) order (sideTerm (g ⊘ variances ! blockOf count s) d) l else l)
+  pub window-side : l′ ≡ addedTo b order (sideTerm (g ⊘ v) (λ i. x ! i)) l
+      → l′ ≡ (if ne g zero⁺ then addedTo (blockOf blocks s) order (sideTerm (g ⊘ v) d) l else l)
   unfolding sideTerm
   window-side e =
       rw t
-      (rw (eo, eb) at e
+      (rw eb at e
       ∙ added-ext _ order _ _ l
       (λ c h. rw (fill-at d (order + 1) x₀ ex (suc c) (omega arith), fill-at d (order + 1) x₀ ex 0 (omega arith))))
 

@@ -1,177 +1,139 @@
--- The sums that the code makes window by window and row by row are those of the definition, and so are the blocks that they give; and what the rows hold
--- past their first m places does not count. Assumes nothing.
-use Prim.Native.Nat.{ℕ, suc, _+_, _*_, _/_, _%_, _<_, _≤_}
-use mathlib.Core.Path.{_≡_, _∙_}
-use mathlib.Core.Bool.{_&&_}
+-- The sums that the code makes place by place are those of the definition, and so are the blocks that they give; and what the rows hold past their first m
+-- places does not count. Assumes nothing.
+use Prim.Native.Nat.{ℕ, suc, _+_, _-_, _*_, _/_, _%_, _^_, _<_, _≤_}
+use mathlib.Core.Path.{_≡_, refl, _∙_}
 use mathlib.Core.List.{List}
 use native.Mathlib.Nat.{mod-lt, div-lt-iff-lt-mul, mul-pos}
 use native.Mathlib.Omega.{arith}
 use lib.Arith.{digits-lt, digits-div, digits-mod}
-use lib.ListN.{length, drop, replicate, length-replicate}
+use lib.ListN.{length, replicate}
 use lib.Ieee.{Float, ne}
-use Rattle.number.specs.Number.{if_then_else_, _=?_, _⊗_, _⊘_, zero⁺}
-use Rattle.number.specs.Sums.{sumWhere}
+use Rattle.number.specs.Number.{if_then_else_, _⊗_, zero⁺}
 use Rattle.number.specs.Table.{_!_, fillAt}
 use Rattle.number.proofs.Sums.{where-ext}
-use Rattle.number.proofs.Table.{fillAt-ext, fill-at}
+use Rattle.number.proofs.Table.{fillAt-ext, fill-at, fill-long}
 use Rattle.window.specs.Windows.{label, labels}
-use Rattle.window.specs.Time.{timeOf}
+use Rattle.window.specs.declared.Time.{Time}
 use Rattle.window.proofs.Windows.{label-below}
-use Rattle.rows.specs.Rows.{Same, windowsOf}
-use Rattle.rows.specs.Memory.{filteredFrom}
-use Rattle.rows.proofs.Places.{place}
 use Rattle.params.specs.declared.MsarParams.{MsarParams}
 use Rattle.params.specs.Parameters.{k, p, blockOf}
-use Rattle.rows.specs.Smoothed.{places, labelAt, distance}
-use Rattle.rows.proofs.SmoothedTable.{label-there, weight-there, seen-same, precision-same}
+use Rattle.rows.specs.Rows.{Same, windowsOf}
+use Rattle.rows.specs.Smoothed.{rowsIn, places}
+use Rattle.rows.specs.Steps.{cellAt, countsFor, precisionIn}
+use Rattle.rows.proofs.Cells.{cells-none}
+use Rattle.rows.proofs.ByPlace.{counts-in, precision-in}
+use Rattle.rows.proofs.SmoothedTable.{seen-same, precision-same}
+use Rattle.density.specs.Steps.{variancesFrom}
+use Rattle.density.proofs.Tables.{block-below, variances-at}
 use Rattle.em_coefficients.specs.declared.Blocks.{Blocks}
 use Rattle.em_coefficients.specs.Coefficients.{blocksOf, inBlock, productAt, arCell, arSide, newBlock, newAr}
-use Rattle.em_coefficients.specs.Steps.{distanceBy, distanceOf, tableTerm, sideTerm, addedTo, sumOn, counted, precisionOf, rowTable, rowSide, blockFrom}
-use Rattle.em_coefficients.proofs.Walk.{cells-more, row-summed, block-below}
+use Rattle.em_coefficients.specs.Steps.{distanceBy, distanceOf, distanceIn, tableTerm, sideTerm, addedTo, rowTable, rowSide, Summed, blockFrom, arBy}
+use Rattle.em_coefficients.proofs.Walk.{block-more}
 use Rattle.em_coefficients.proofs.Parts.{side-fits, table-fits, answers-ext}
 
--- ---- a window more of a row that stands from `from` on; l is what stood in the cells before the row
+-- ---- the sums, a place further
 
-module _ (work : List Float) (from a k count blocks : ℕ) (variances : List Float) (x : ℕ → ℕ → Float) (order : ℕ) (pos : 0 < order) (small : order ≤ 7) (s : ℕ)
-    (es : s ≡ a % k) (below : s < 16) (l : List Float) where
-  window-counts : (w c : ℕ) → counted k blocks (drop from work) (c / w) a ≡ (ne (work ! (from + a)) zero⁺ && blockOf blocks s =? c / w)
-  unfolding counted
-  window-counts w c = rw (place work from a, es)
+module _ (k p blocks : ℕ) (work : List Float) (w : ℕ → Float) (x : ℕ → ℕ → Float) where
+  pub summed-none : Summed k p blocks work w x 0 (replicate 784 zero⁺) (replicate 112 zero⁺)
+  summed-none = record { tabled = cells-none _ _ 784 784 (omega arith); sided = cells-none _ _ 112 112 (omega arith) }
 
-  weight-is : work ! (from + a) ⊘ variances ! blockOf count s ≡ precisionOf k count variances (drop from work) a
-  unfolding precisionOf
-  weight-is = rw (place work from a, es)
+  module _ {e : ℕ} {tables sides : List Float} (S : Summed k p blocks work w x e tables sides) where
+    pub tables-long : length tables ≡ 784
+    tables-long = fill-long _ 784 (replicate 784 zero⁺) (S .tabled) (omega arith)
 
-  table-term : (c : ℕ) → c < order * order
-      → tableTerm order (work ! (from + a) ⊘ variances ! blockOf count s) (x a) c
-      ≡ rowTable order (precisionOf k count variances (drop from work)) x (blockOf blocks s * (order * order) + c) a
-  unfolding rowTable
-  table-term c h = rw (weight-is, digits-mod (blockOf blocks s) h)
+    pub sides-long : length sides ≡ 112
+    sides-long = fill-long _ 112 (replicate 112 zero⁺) (S .sided) (omega arith)
 
-  side-term : (c : ℕ) → c < order
-      → sideTerm (work ! (from + a) ⊘ variances ! blockOf count s) (x a) c
-      ≡ rowSide order (precisionOf k count variances (drop from work)) x (blockOf blocks s * order + c) a
-  unfolding rowSide
-  side-term c h = rw (weight-is, digits-mod (blockOf blocks s) h)
+    -- place e, of label s now, weight g and distances d
+    pub summed-more : {g v : Float} {d : ℕ → Float} {tables′ sides′ : List Float} → 0 < p → p ≤ 7 → (s : ℕ) → s < 16 → e % k ≡ s → g ≡ work ! e → v ≡ w e
+        → ((l : ℕ) → l ≤ p → d l ≡ x e l)
+        → tables′ ≡ (if ne g zero⁺ then addedTo (blockOf blocks s) (p * p) (tableTerm p v d) tables else tables)
+        → sides′ ≡ (if ne g zero⁺ then addedTo (blockOf blocks s) p (sideTerm v d) sides else sides)
+        → Summed k p blocks work w x (e + 1) tables′ sides′
+    unfolding countsFor rowTable rowSide tableTerm sideTerm
+    summed-more {g} {v} {d} pos few s low now eg ev ed et es =
+        let b = block-below blocks s 16 low in
+        record {
+          tabled =
+              block-more _ _ 784 e _ (S .tabled) (omega arith) (blockOf blocks s) (p * p) (mul-pos pos pos) (table-fits b few) (ne g zero⁺) _
+              (λ c. rw (eg, now))
+              (λ c h. rw (digits-mod (blockOf blocks s) h, ev, ed (suc (c / p)) (div-lt-iff-lt-mul pos .1 h), ed (suc (c % p)) (mod-lt c pos)))
+              et;
+          sided =
+              block-more _ _ 112 e _ (S .sided) (omega arith) (blockOf blocks s) p pos (side-fits b few) (ne g zero⁺) _
+              (λ c. rw (eg, now))
+              (λ c h. rw (digits-mod (blockOf blocks s) h, ev, ed (suc c) h, ed 0 (omega arith)))
+              es;
+        }
 
-  module _ {m m′ : List Float} where
-    pub window-tabled : 784 ≤ length l
-        → m ≡ fillAt 0 (λ c. sumOn (l ! c) (counted k blocks (drop from work) (c / (order * order))) (rowTable order (precisionOf k count variances (drop from work)) x c) a) 784 l
-        → m′ ≡ (if ne (work ! (from + a)) zero⁺ then addedTo (blockOf blocks s) (order * order) (tableTerm order (work ! (from + a) ⊘ variances ! blockOf count s) (x a)) m else m)
-        → m′ ≡ fillAt 0 (λ c. sumOn (l ! c) (counted k blocks (drop from work) (c / (order * order))) (rowTable order (precisionOf k count variances (drop from work)) x c) (a + 1)) 784 l
-    window-tabled h e e′ =
-        cells-more (λ c. counted k blocks (drop from work) (c / (order * order))) (rowTable order (precisionOf k count variances (drop from work)) x) 784 l h a e
-        (blockOf blocks s) (order * order) (mul-pos pos pos) (table-fits (block-below blocks s 16 below) small)
-        (ne (work ! (from + a)) zero⁺) _ (window-counts (order * order)) table-term e′
+-- ---- the distances by place
 
-    pub window-sided : 112 ≤ length l
-        → m ≡ fillAt 0 (λ c. sumOn (l ! c) (counted k blocks (drop from work) (c / order)) (rowSide order (precisionOf k count variances (drop from work)) x c) a) 112 l
-        → m′ ≡ (if ne (work ! (from + a)) zero⁺ then addedTo (blockOf blocks s) order (sideTerm (work ! (from + a) ⊘ variances ! blockOf count s) (x a)) m else m)
-        → m′ ≡ fillAt 0 (λ c. sumOn (l ! c) (counted k blocks (drop from work) (c / order)) (rowSide order (precisionOf k count variances (drop from work)) x c) (a + 1)) 112 l
-    window-sided h e e′ =
-        cells-more (λ c. counted k blocks (drop from work) (c / order)) (rowSide order (precisionOf k count variances (drop from work)) x) 112 l h a e
-        (blockOf blocks s) order pos (side-fits (block-below blocks s 16 below) small)
-        (ne (work ! (from + a)) zero⁺) _ (window-counts order) side-term e′
-
--- ---- window a of row i
-
-module _ (q : MsarParams) (y : List Float) (rows : ℕ → List Float) (i a : ℕ) (h : a < windowsOf q) where
-  label-now : labelAt q (i * windowsOf q + a) 0 ≡ a % k q
-  unfolding labels
-  label-now = label-there q i h 0
-
-  test-here : (b : ℕ) → counted (k q) (q .«ar_blocks») (rows i) b a ≡ inBlock q rows b (i * windowsOf q + a)
-  unfolding counted inBlock
-  test-here b = rw (weight-there q i h rows, label-now)
-
-  module _ (positive : 0 < k q) (d : List Float) {distances : List Float} (e : distances ≡ fillAt 0 (distanceBy (k q) y (timeOf (p q) (record { 0 = i })) (q .means)) (suc (p q) * k q) d) where
-    distance-here : (l : ℕ) → l ≤ p q → distanceOf (k q) (p q) distances a l ≡ distance q y (i * windowsOf q + a) l
-    unfolding distanceOf distanceBy
-    distance-here l hl =
-        let l′ : l < suc (p q) = omega arith in
-        let s′ = label-below (k q) positive (suc (p q)) a l l′ in
-        rw (fill-at (distanceBy (k q) y (timeOf (p q) (record { 0 = i })) (q .means)) (suc (p q) * k q) d e (l * k q + label (labels (k q) (suc (p q)) a) l) (digits-lt l′ s′), digits-div l s′, digits-mod l s′, digits-div i h, digits-mod i h)
-
-    product-here : (l j : ℕ) → l ≤ p q → j ≤ p q
-        → precisionOf (k q) (q .«variances_count») (q .variances) (rows i) a ⊗ distanceOf (k q) (p q) distances a l ⊗ distanceOf (k q) (p q) distances a j
-        ≡ productAt q y rows l j (i * windowsOf q + a)
-    unfolding precisionOf productAt
-    product-here l j hl hj = rw (distance-here l hl, distance-here j hj, weight-there q i h rows, label-now)
-
-    -- what it adds to the cells of the tables and of the sides
-    module _ (pos : 0 < p q) (c : ℕ) where
-      table-here : rowTable (p q) (precisionOf (k q) (q .«variances_count») (q .variances) (rows i)) (distanceOf (k q) (p q) distances) c a
-          ≡ productAt q y rows (suc (c % (p q * p q) / p q)) (suc (c % (p q * p q) % p q)) (i * windowsOf q + a)
-      unfolding rowTable tableTerm
-      table-here = product-here _ _ (div-lt-iff-lt-mul pos .1 (mod-lt c (mul-pos pos pos))) (mod-lt _ pos)
-
-      side-here : rowSide (p q) (precisionOf (k q) (q .«variances_count») (q .variances) (rows i)) (distanceOf (k q) (p q) distances) c a
-          ≡ productAt q y rows (suc (c % p q)) 0 (i * windowsOf q + a)
-      unfolding rowSide sideTerm
-      side-here = product-here _ _ (mod-lt c pos) (omega arith)
-
--- ---- the sums over the places before e, in the cells of all blocks
-
-abbrev pub tableSum : MsarParams → List Float → (ℕ → List Float) → ℕ → ℕ → Float
-tableSum q y rows e c =
-    sumWhere (inBlock q rows (c / (p q * p q))) (productAt q y rows (suc (c % (p q * p q) / p q)) (suc (c % (p q * p q) % p q))) e
-
-abbrev pub sideSum : MsarParams → List Float → (ℕ → List Float) → ℕ → ℕ → Float
-sideSum q y rows e c = sumWhere (inBlock q rows (c / p q)) (productAt q y rows (suc (c % p q)) 0) e
-
--- the smoothed rows that stand in work memory
-abbrev pub rowsOf : MsarParams → List Float → ℕ → List Float
-rowsOf q work j = drop (filteredFrom (windowsOf q) j) work
-
--- a row further
-module _ (q : MsarParams) (y work : List Float) (i m : ℕ) (w : m ≡ windowsOf q) (positive : 0 < k q) (pos : 0 < p q) (d distances : List Float)
-    (ed : distances ≡ fillAt 0 (distanceBy (k q) y (timeOf (p q) (record { 0 = i })) (q .means)) (suc (p q) * k q) d) {now now′ : List Float} where
-  pub tables-more : now ≡ fillAt 0 (tableSum q y (rowsOf q work) (i * windowsOf q)) 784 (replicate 784 zero⁺)
-      → now′ ≡ fillAt 0 (λ c. sumOn (now ! c) (counted (k q) (q .«ar_blocks») (drop (filteredFrom m i) work) (c / (p q * p q))) (rowTable (p q) (precisionOf (k q) (q .«variances_count») (q .variances) (drop (filteredFrom m i) work)) (distanceOf (k q) (p q) distances) c) m) 784 now
-      → now′ ≡ fillAt 0 (tableSum q y (rowsOf q work) ((i + 1) * windowsOf q)) 784 (replicate 784 zero⁺)
-  tables-more e e′ =
-      row-summed (λ c. inBlock q (rowsOf q work) (c / (p q * p q))) (λ c. productAt q y (rowsOf q work) (suc (c % (p q * p q) / p q)) (suc (c % (p q * p q) % p q))) 784
-      (λ c. counted (k q) (q .«ar_blocks») (rowsOf q work i) (c / (p q * p q)))
-      (rowTable (p q) (precisionOf (k q) (q .«variances_count») (q .variances) (rowsOf q work i)) (distanceOf (k q) (p q) distances))
-      (replicate 784 zero⁺) i (windowsOf q) (rw length-replicate (omega arith)) e (rw w at e′)
-      (λ c a h. test-here q y (rowsOf q work) i a h (c / (p q * p q)))
-      (λ c a h. table-here q y (rowsOf q work) i a h positive d ed pos c)
-
-  pub sides-more : now ≡ fillAt 0 (sideSum q y (rowsOf q work) (i * windowsOf q)) 112 (replicate 112 zero⁺)
-      → now′ ≡ fillAt 0 (λ c. sumOn (now ! c) (counted (k q) (q .«ar_blocks») (drop (filteredFrom m i) work) (c / p q)) (rowSide (p q) (precisionOf (k q) (q .«variances_count») (q .variances) (drop (filteredFrom m i) work)) (distanceOf (k q) (p q) distances) c) m) 112 now
-      → now′ ≡ fillAt 0 (sideSum q y (rowsOf q work) ((i + 1) * windowsOf q)) 112 (replicate 112 zero⁺)
-  sides-more e e′ =
-      row-summed (λ c. inBlock q (rowsOf q work) (c / p q)) (λ c. productAt q y (rowsOf q work) (suc (c % p q)) 0) 112
-      (λ c. counted (k q) (q .«ar_blocks») (rowsOf q work i) (c / p q))
-      (rowSide (p q) (precisionOf (k q) (q .«variances_count») (q .variances) (rowsOf q work i)) (distanceOf (k q) (p q) distances))
-      (replicate 112 zero⁺) i (windowsOf q) (rw length-replicate (omega arith)) e (rw w at e′)
-      (λ c a h. test-here q y (rowsOf q work) i a h (c / p q))
-      (λ c a h. side-here q y (rowsOf q work) i a h positive d ed pos c)
+pub distance-there : (k order m i a l : ℕ) (y means d : List Float) (t : Time) {distances : List Float} → 0 < k → t .0 ≡ order + i → a < m → l ≤ order
+    → distances ≡ fillAt 0 (distanceBy k y t means) (suc order * k) d
+    → distanceOf k order distances a l ≡ distanceIn k order m y means (i * m + a) l
+unfolding distanceOf distanceIn distanceBy
+distance-there k order m i a l y means d t pos z h hl e =
+    let lag : l < suc order = omega arith in
+    let s = label-below k pos (suc order) a l lag in
+    fill-at _ (suc order * k) d e (l * k + label (labels k (suc order) a) l) (digits-lt lag s) ∙ rw (digits-div l s, digits-mod l s, z, digits-div i h, digits-mod i h)
 
 -- ---- the blocks
 
-module _ (q : MsarParams) (y : List Float) (n : ℕ) (rows : ℕ → List Float) (pos : 0 < p q) (small : p q ≤ 7) {tables sides : List Float}
-    (et : tables ≡ fillAt 0 (tableSum q y rows (places q n)) 784 (replicate 784 zero⁺)) (es : sides ≡ fillAt 0 (sideSum q y rows (places q n)) 112 (replicate 112 zero⁺)) where
-  cell-is : (b e : ℕ) → b < 16 → e < p q * p q → tables ! (b * (p q * p q) + e) ≡ arCell q y n rows b (e / p q) (e % p q)
-  unfolding arCell
-  cell-is b e hb he =
-      fill-at _ 784 _ et (b * (p q * p q) + e) (omega (arith, table-fits hb small)) ∙ rw (digits-div b he, digits-mod b he)
+pub blocks-by : (k order blocks count : ℕ) (means ar variances y : List Float) (n : ℕ) (work : List Float) (m : ℕ) {own tables sides : List Float} {r : Blocks}
+    → m ≡ k ^ suc order → own ≡ variancesFrom variances count k
+    → Summed k order blocks work (precisionIn k own work) (distanceIn k order m y means) (n * m) tables sides
+    → r ≡ blocksOf order blocks (blockFrom order tables sides ar) ar
+    → r ≡ arBy k order blocks count means ar variances y n work
+unfolding arBy
+blocks-by k order blocks count means ar variances y n work m w o S e =
+    let all = rw (w, o) at S in
+    e ∙ rw (all .tabled, all .sided)
 
-  side-is : (b l : ℕ) → b < 16 → l < p q → sides ! (b * p q + l) ≡ arSide q y n rows b l
-  unfolding arSide
-  side-is b l hb hl = fill-at _ 112 _ es (b * p q + l) (omega (arith, side-fits hb small)) ∙ rw (digits-div b hl, digits-mod b hl)
+module _ (q : MsarParams) (positive : 0 < k q) (pos : 0 < p q) (small : p q ≤ 7) (y work : List Float) (n : ℕ) where
+  abbrev own : List Float
+  own = variancesFrom (q .variances) (q .«variances_count») (k q)
 
-  block-is : (b : ℕ) → b < 16 → blockFrom (p q) tables sides (q .ar) b ≡ newBlock q y n rows b
-  unfolding blockFrom newBlock
-  block-is b hb =
+  abbrev w : ℕ → Float
+  w = precisionIn (k q) own work
+
+  abbrev x : ℕ → ℕ → Float
+  x = distanceIn (k q) (p q) (windowsOf q) y (q .means)
+
+  counted : (b e : ℕ) → e < places q n → countsFor (k q) (q .«ar_blocks») work b e ≡ inBlock q (rowsIn q work) b e
+  unfolding inBlock
+  counted b e _ = counts-in q positive e work (q .«ar_blocks») b
+
+  product-is : (i j e : ℕ) → w e ⊗ x e i ⊗ x e j ≡ productAt q y (rowsIn q work) i j e
+  unfolding productAt distanceIn
+  product-is i j e = rw (precision-in q positive e work own (variances-at q (e % k q) (mod-lt e positive)))
+
+  cell-is : (b c : ℕ) → b < 16 → c < p q * p q
+      → fillAt 0 (cellAt (λ c. countsFor (k q) (q .«ar_blocks») work (c / (p q * p q))) (rowTable (p q) w x) (places q n)) 784 (replicate 784 zero⁺) ! (b * (p q * p q) + c)
+      ≡ arCell q y n (rowsIn q work) b (c / p q) (c % p q)
+  unfolding arCell cellAt rowTable tableTerm
+  cell-is b c hb hc =
+      fill-at _ 784 (replicate 784 zero⁺) refl (b * (p q * p q) + c) (omega (arith, table-fits hb small))
+      ∙ where-ext _ _ _ _ (places q n) (λ e h. rw (digits-div b hc) (counted b e h)) (λ e _. rw (digits-mod b hc) (product-is (suc (c / p q)) (suc (c % p q)) e))
+
+  side-is : (b l : ℕ) → b < 16 → l < p q
+      → fillAt 0 (cellAt (λ c. countsFor (k q) (q .«ar_blocks») work (c / p q)) (rowSide (p q) w x) (places q n)) 112 (replicate 112 zero⁺) ! (b * p q + l)
+      ≡ arSide q y n (rowsIn q work) b l
+  unfolding arSide cellAt rowSide sideTerm
+  side-is b l hb hl =
+      fill-at _ 112 (replicate 112 zero⁺) refl (b * p q + l) (omega (arith, side-fits hb small))
+      ∙ where-ext _ _ _ _ (places q n) (λ e h. rw (digits-div b hl) (counted b e h)) (λ e _. rw (digits-mod b hl) (product-is (suc l) 0 e))
+
+  pub ar-are : q .«ar_blocks» ≤ 16
+      → arBy (k q) (p q) (q .«ar_blocks») (q .«variances_count») (q .means) (q .ar) (q .variances) y n work ≡ newAr q y n (rowsIn q work)
+  unfolding arBy newAr blockFrom newBlock
+  ar-are h =
+      answers-ext (p q) _ (q .ar) (q .«ar_blocks») (newBlock q y n (rowsIn q work)) pos
+      (λ b hb.
+      let b′ : b < 16 = omega arith in
       rw (
-        fillAt-ext 0 (λ e. tables ! (b * (p q * p q) + e)) (p q * p q) (replicate 256 zero⁺) (λ e. arCell q y n rows b (e / p q) (e % p q)) (λ e he. cell-is b e hb he),
-        fillAt-ext 0 (λ l. sides ! (b * p q + l)) (p q) (replicate 16 zero⁺) (arSide q y n rows b) (λ l hl. side-is b l hb hl),
-      )
-
-  pub blocks-are : q .«ar_blocks» ≤ 16 → {r : Blocks} → r ≡ blocksOf (p q) (q .«ar_blocks») (blockFrom (p q) tables sides (q .ar)) (q .ar) → r ≡ newAr q y n rows
-  unfolding newAr
-  blocks-are h e = e ∙ answers-ext (p q) _ (q .ar) (q .«ar_blocks») (newBlock q y n rows) pos (λ b hb. block-is b (omega arith))
+        fillAt-ext 0 _ (p q * p q) (replicate 256 zero⁺) (λ e. arCell q y n (rowsIn q work) b (e / p q) (e % p q)) (λ c hc. cell-is b c b′ hc),
+        fillAt-ext 0 _ (p q) (replicate 16 zero⁺) (arSide q y n (rowsIn q work) b) (λ l hl. side-is b l b′ hl),
+      ))
 
 -- ---- rows that hold the same in their first m places
 

@@ -1,17 +1,20 @@
--- What the steps of the code give: the sums of all blocks gone on with window by window and row by row, and the blocks that they give. The proofs show
--- that they are those of the definition.
-use Prim.Native.Nat.{ℕ, zero, suc, _+_, _-_, _*_, _/_, _%_}
-use mathlib.Core.Bool.{Bool, _&&_}
+-- What the steps of the code give, of parts that are lent one by one: distances by lag and label, sums by place of work memory, and the blocks that they
+-- give. The proofs show that they are those of the definition.
+use Prim.Native.Nat.{ℕ, suc, _+_, _-_, _*_, _/_, _%_, _^_}
+use mathlib.Core.Path.{_≡_}
 use mathlib.Core.List.{List}
 use lib.ListN.{replicate}
-use lib.Ieee.{Float, ne}
-use Rattle.number.specs.Number.{if_then_else_, _=?_, _⊕_, _⊖_, _⊗_, _⊘_, zero⁺}
+use lib.Ieee.{Float}
+use Rattle.number.specs.Number.{_⊕_, _⊖_, _⊗_, zero⁺}
 use Rattle.number.specs.Table.{_!_, fillAt}
 use Rattle.window.specs.Windows.{label, labels}
 use Rattle.window.specs.declared.Time.{Time}
-use Rattle.params.specs.Parameters.{blockOf}
+use Rattle.rows.specs.Steps.{cellAt, countsFor, precisionIn}
+use Rattle.density.specs.Steps.{variancesFrom}
 use Rattle.em_ridge.specs.Ridge.{solveOrKeep}
 use Rattle.em_ridge.specs.declared.Update.{Update}
+use Rattle.em_coefficients.specs.declared.Blocks.{Blocks}
+use Rattle.em_coefficients.specs.Coefficients.{blocksOf}
 
 -- y[t-l] - μ[s] at time t by lag and label, at place l·k + s
 unfoldable pub distanceBy : ℕ → List Float → Time → List Float → ℕ → Float
@@ -32,25 +35,21 @@ sideTerm w x l = w ⊗ x (suc l) ⊗ x 0
 unfoldable pub addedTo : ℕ → ℕ → (ℕ → Float) → List Float → List Float
 addedTo b n f l = fillAt (b * n) (λ c. l ! (b * n + c) ⊕ f c) n l
 
--- a sum that goes on from x, over those i below n for which the test holds
-unfoldable pub sumOn : Float → (ℕ → Bool) → (ℕ → Float) → ℕ → Float
-sumOn x holds f zero = x
-sumOn x holds f (suc n) = if holds n then sumOn x holds f n ⊕ f n else sumOn x holds f n
+-- x_l at place e: of window e % m of row e / m
+unfoldable pub distanceIn : ℕ → ℕ → ℕ → List Float → List Float → ℕ → ℕ → Float
+distanceIn k order m y means e l = y ! (order + e / m - l) ⊖ means ! label (labels k (suc order) (e % m)) l
 
--- window a of a row, whose label now is a % k, counts for block b
-unfoldable pub counted : ℕ → ℕ → List Float → ℕ → ℕ → Bool
-counted k blocks row b a = ne (row ! a) zero⁺ && blockOf blocks (a % k) =? b
-
--- its smoothed weight over variance
-unfoldable pub precisionOf : ℕ → ℕ → List Float → List Float → ℕ → Float
-precisionOf k count variances row a = row ! a ⊘ variances ! blockOf count (a % k)
-
--- what it adds to cell c of the tables of all blocks, and of their sides
+-- what a place a of weight w a and distances x a adds to cell c of the tables of all blocks, and of their sides
 unfoldable pub rowTable : ℕ → (ℕ → Float) → (ℕ → ℕ → Float) → ℕ → ℕ → Float
 rowTable p w x c a = tableTerm p (w a) (x a) (c % (p * p))
 
 unfoldable pub rowSide : ℕ → (ℕ → Float) → (ℕ → ℕ → Float) → ℕ → ℕ → Float
 rowSide p w x c a = sideTerm (w a) (x a) (c % p)
+
+-- the sums over all places before e, for each block
+pub record Summed (k p blocks : ℕ) (work : List Float) (w : ℕ → Float) (x : ℕ → ℕ → Float) (e : ℕ) (tables sides : List Float) : Type 0 where
+  pub tabled : tables ≡ fillAt 0 (cellAt (λ c. countsFor k blocks work (c / (p * p))) (rowTable p w x) e) 784 (replicate 784 zero⁺)
+  pub sided : sides ≡ fillAt 0 (cellAt (λ c. countsFor k blocks work (c / p)) (rowSide p w x) e) 112 (replicate 112 zero⁺)
 
 -- block b of the tables and sides, solved
 unfoldable pub blockFrom : ℕ → List Float → List Float → List Float → ℕ → Update
@@ -59,3 +58,13 @@ blockFrom p tables sides ar b =
     (fillAt 0 (λ e. tables ! (b * (p * p) + e)) (p * p) (replicate 256 zero⁺))
     (fillAt 0 (λ l. sides ! (b * p + l)) p (replicate 16 zero⁺))
     (fillAt 0 (λ l. ar ! (b * p + l)) p (replicate 16 zero⁺))
+
+-- all blocks, by n rows in work memory
+unfoldable pub arBy : ℕ → ℕ → ℕ → ℕ → List Float → List Float → List Float → List Float → ℕ → List Float → Blocks
+arBy k order blocks count means ar variances y n work =
+    let m = k ^ suc order in
+    let w = precisionIn k (variancesFrom variances count k) work in
+    let x = distanceIn k order m y means in
+    let tables = fillAt 0 (cellAt (λ c. countsFor k blocks work (c / (order * order))) (rowTable order w x) (n * m)) 784 (replicate 784 zero⁺) in
+    let sides = fillAt 0 (cellAt (λ c. countsFor k blocks work (c / order)) (rowSide order w x) (n * m)) 112 (replicate 112 zero⁺) in
+    blocksOf order blocks (blockFrom order tables sides ar) ar

@@ -2,18 +2,17 @@
 // b's table stands from place b·p·p on, its right-hand side from b·p on. The distance of a reading to a mean depends on
 // its lag and label alone: the distances are made once a row, and each window reads those of its labels.
 ghost use mathlib.Core.Path.{_≡_};
-ghost use Prim.Native.Nat.{suc, _+_, _*_, _/_, _^_, _<_, _≤_};
-ghost use lib.ListN.{length, drop, replicate};
+ghost use Prim.Native.Nat.{suc, _+_, _*_, _^_, _<_, _≤_};
+ghost use lib.ListN.{length, replicate};
 ghost use lib.Ieee.{ne};
 ghost use Rattle.number.specs.Number.{if_then_else_, _⊕_, _⊗_, _⊘_, zero⁺};
 ghost use Rattle.number.specs.Table.{_!_, fillAt};
 ghost use Rattle.window.specs.Shape.{Shape};
-ghost use Rattle.rows.specs.Memory.{filteredFrom};
-ghost use Rattle.params.specs.Parameters.{k, p, blockOf};
-ghost use Rattle.em_coefficients.specs.Coefficients.{blocksOf, newAr};
-ghost use Rattle.em_coefficients.specs.Steps.{distanceBy, distanceOf, tableTerm, sideTerm, addedTo, sumOn, counted, precisionOf, rowTable, rowSide, blockFrom};
+ghost use Rattle.params.specs.Parameters.{blockOf};
+ghost use Rattle.rows.specs.Steps.{precisionIn};
+ghost use Rattle.em_coefficients.specs.Coefficients.{blocksOf};
+ghost use Rattle.em_coefficients.specs.Steps.{distanceBy, distanceOf, distanceIn, tableTerm, sideTerm, addedTo, Summed, blockFrom, arBy};
 use em_ridge::Update;
-use params::MsarParams;
 use refusal::Check;
 use window::Row;
 use window::Time;
@@ -70,17 +69,7 @@ fn add_window(
     }
 }
 
-// What is counted once is shared by all labels.
-fn block_of(count: usize, s: usize) -> usize
-    ensures { λ r. ⌜ r ≡ blockOf count s ⌝ }
-{
-    if count == 1 {
-        return 0;
-    }
-    s
-}
-
-// Window a, of smoothed weight g and label s now; a weight equal to zero is skipped.
+// Window a, of smoothed weight g and label s now; a weight equal to zero is skipped. The variances are by label.
 fn weigh_window(
     g: f64,
     a: usize,
@@ -90,20 +79,18 @@ fn weigh_window(
     k: usize,
     order: usize,
     blocks: usize,
-    count: usize,
     tables: &mut [f64; 784],
     sides: &mut [f64; 112],
 )
     requires { ⌜ (s < 16) × (0 < k) × (k ≤ 16) × (0 < order) × (order ≤ 7) × (length (now tables) ≡ 784) × (length (now sides) ≡ 112) ⌝ }
-    ensures tables { λ _. ⌜ now (tables .exit) ≡ (if ne g zero⁺ then addedTo (blockOf blocks s) (order * order) (tableTerm order (g ⊘ now (variances .entry) ! blockOf count s) (distanceOf k order (now (distances .entry)) a)) (now (tables .entry)) else now (tables .entry)) ⌝ }
-    ensures sides { λ _. ⌜ now (sides .exit) ≡ (if ne g zero⁺ then addedTo (blockOf blocks s) order (sideTerm (g ⊘ now (variances .entry) ! blockOf count s) (distanceOf k order (now (distances .entry)) a)) (now (sides .entry)) else now (sides .entry)) ⌝ }
+    ensures tables { λ _. ⌜ now (tables .exit) ≡ (if ne g zero⁺ then addedTo (blockOf blocks s) (order * order) (tableTerm order (g ⊘ now (variances .entry) ! s) (distanceOf k order (now (distances .entry)) a)) (now (tables .entry)) else now (tables .entry)) ⌝ }
+    ensures sides { λ _. ⌜ now (sides .exit) ≡ (if ne g zero⁺ then addedTo (blockOf blocks s) order (sideTerm (g ⊘ now (variances .entry) ! s) (distanceOf k order (now (distances .entry)) a)) (now (sides .entry)) else now (sides .entry)) ⌝ }
 {
     if g != 0.0 {
         let mut x = [0.0; 8];
         distances_of(distances, a, k, order, &mut x);
-        let own = block_of(count, s);
-        let b = block_of(blocks, s);
-        add_window(tables, sides, b, order, g / variances[own], &x);
+        let b = density::block_of(blocks, s);
+        add_window(tables, sides, b, order, g / variances[s], &x);
     }
 }
 
@@ -128,25 +115,36 @@ fn distances_at(
     }
 }
 
-// A row of m weights, which stands from `from` on.
+// Row i: its m windows, whose weights stand from i·m on.
 fn add_row(
-    work: &[f64],
-    from: usize,
-    distances: &[f64; 128],
+    means: &[f64; 16],
     variances: &[f64; 16],
     k: usize,
     order: usize,
     blocks: usize,
-    count: usize,
+    y: &[f64],
+    work: &[f64],
+    i: usize,
     m: usize,
+    distances: &mut [f64; 128],
     tables: &mut [f64; 784],
     sides: &mut [f64; 112],
 )
-    requires { ⌜ (0 < k) × (k ≤ 16) × (from + m ≤ length (now work)) ⌝ }
-    requires { ⌜ (0 < order) × (order ≤ 7) × (length (now tables) ≡ 784) × (length (now sides) ≡ 112) ⌝ }
-    ensures tables { λ _. ⌜ now (tables .exit) ≡ fillAt 0 (λ c. sumOn (now (tables .entry) ! c) (counted k blocks (drop from (now (work .entry))) (c / (order * order))) (rowTable order (precisionOf k count (now (variances .entry)) (drop from (now (work .entry)))) (distanceOf k order (now (distances .entry))) c) m) 784 (now (tables .entry)) ⌝ }
-    ensures sides { λ _. ⌜ now (sides .exit) ≡ fillAt 0 (λ c. sumOn (now (sides .entry) ! c) (counted k blocks (drop from (now (work .entry))) (c / order)) (rowSide order (precisionOf k count (now (variances .entry)) (drop from (now (work .entry)))) (distanceOf k order (now (distances .entry))) c) m) 112 (now (sides .entry)) ⌝ }
+    requires { ⌜ Shape k order ⌝ }
+    requires { ⌜ (m ≡ k ^ suc order) × (0 < order) × (order + i < length (now y)) × (length (now y) ≤ 4096) × (i * m + m ≤ length (now work)) × (length (now distances) ≡ 128) ⌝ }
+    requires { ⌜ Summed k order blocks (now work) (precisionIn k (now variances) (now work)) (distanceIn k order m (now y) (now means)) (i * m) (now tables) (now sides) ⌝ }
+    ensures length { λ _. ⌜ length (now (distances .exit)) ≡ 128 ⌝ }
+    ensures sums { λ _. ⌜ Summed k order blocks (now (work .entry)) (precisionIn k (now (variances .entry)) (now (work .entry))) (distanceIn k order m (now (y .entry)) (now (means .entry))) (i * m + m) (now (tables .exit)) (now (sides .exit)) ⌝ }
 {
+    distances_at(
+        y,
+        window::time_of(Row(i), order),
+        means,
+        k,
+        order,
+        distances,
+    );
+    let from = i * m;
     let mut s = 0;
     for a in 0..m {
         weigh_window(
@@ -158,7 +156,6 @@ fn add_row(
             k,
             order,
             blocks,
-            count,
             tables,
             sides,
         );
@@ -224,15 +221,15 @@ fn solve_blocks(
     order: usize,
     tables: &[f64; 784],
     sides: &[f64; 112],
-    old: [f64; 112],
+    old: &[f64; 112],
     blocks: usize,
 ) -> Blocks
-    requires { ⌜ (0 < order) × (order ≤ 7) × (blocks ≤ 16) ⌝ }
-    ensures { λ r. ⌜ r ≡ blocksOf order blocks (blockFrom order (now (tables .entry)) (now (sides .entry)) old) old ⌝ }
+    requires { ⌜ (0 < order) × (order ≤ 7) × (blocks ≤ 16) × (length (now old) ≡ 112) ⌝ }
+    ensures { λ r. ⌜ r ≡ blocksOf order blocks (blockFrom order (now (tables .entry)) (now (sides .entry)) (now (old .entry))) (now (old .entry)) ⌝ }
 {
-    let mut ar = old;
+    let mut ar = *old;
     for b in 0..blocks {
-        let update = solve_block(order, tables, sides, &old, b);
+        let update = solve_block(order, tables, sides, old, b);
         let check = update.check;
         if let Check::Failed(r) = check {
             return Blocks {
@@ -250,39 +247,43 @@ fn solve_blocks(
 }
 
 // The new coefficients by the smoothed rows in work memory.
-pub fn new_ar(q: MsarParams, y: &[f64], power: usize, n: usize, work: &[f64]) -> Blocks
-    requires { ⌜ Shape (k q) (p q) ⌝ }
-    requires { ⌜ (power ≡ k q ^ p q) × (0 < p q) × (p q + n ≡ length (now y)) × (length (now y) ≤ 4096) × (n * k q ^ suc (p q) ≤ length (now work)) × (q .«ar_blocks» ≤ 16) ⌝ }
-    ensures { λ r. ⌜ r ≡ newAr q (now (y .entry)) n (λ i. drop (filteredFrom (k q ^ suc (p q)) i) (now (work .entry))) ⌝ }
+pub fn new_ar(
+    means: &[f64; 16],
+    ar: &[f64; 112],
+    variances: &[f64; 16],
+    k: usize,
+    order: usize,
+    blocks: usize,
+    count: usize,
+    y: &[f64],
+    power: usize,
+    n: usize,
+    work: &[f64],
+) -> Blocks
+    requires { ⌜ Shape k order ⌝ }
+    requires { ⌜ (power ≡ k ^ order) × (0 < order) × (order + n ≡ length (now y)) × (length (now y) ≤ 4096) × (n * k ^ suc order ≤ length (now work)) × (blocks ≤ 16) × (length (now ar) ≡ 112) ⌝ }
+    ensures { λ r. ⌜ r ≡ arBy k order blocks count (now (means .entry)) (now (ar .entry)) (now (variances .entry)) (now (y .entry)) n (now (work .entry)) ⌝ }
 {
-    let k = q.means_count;
-    let order = q.order;
     let m = power * k;
+    let own = density::variances(variances, count, k);
     let mut distances = [0.0; 128];
     let mut tables = [0.0; 784];
     let mut sides = [0.0; 112];
     for i in 0..n {
-        distances_at(
-            y,
-            window::time_of(Row(i), order),
-            &q.means,
-            k,
-            order,
-            &mut distances,
-        );
         add_row(
-            work,
-            i * m,
-            &distances,
-            &q.variances,
+            means,
+            &own,
             k,
             order,
-            q.ar_blocks,
-            q.variances_count,
+            blocks,
+            y,
+            work,
+            i,
             m,
+            &mut distances,
             &mut tables,
             &mut sides,
         );
     }
-    solve_blocks(order, &tables, &sides, q.ar, q.ar_blocks)
+    solve_blocks(order, &tables, &sides, ar, blocks)
 }

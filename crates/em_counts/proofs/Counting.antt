@@ -1,12 +1,11 @@
 -- Counting, one place more: the labels and the weight of a place, and the two arrays after it. Assumes nothing.
 use Prim.Native.Nat.{ℕ, _+_, _*_, _/_, _%_, _<_, _≤_}
-use mathlib.Core.Path.{_≡_, refl, sym, ap, _∙_}
+use mathlib.Core.Path.{_≡_, refl, sym, _∙_}
 use mathlib.Core.Logic.{_≢_}
 use mathlib.Core.Bool.{true, false}
 use mathlib.Core.List.{List}
-use native.Mathlib.Nat.{add-assoc, add-zero, add-mul, mul-assoc, mul-le-mul, div-add-mod', mul-add-mod-self-right}
+use native.Mathlib.Nat.{mul-le-mul, div-add-mod'}
 use native.Mathlib.Decide.{ℕ-discrete}
-use native.Mathlib.Omega.{arith}
 use borrow.Author.Tests.{eq-eqb, ne-eqb}
 use lib.Arith.{digits-lt, digits-div, digits-mod}
 use lib.ListN.{length, set, replicate}
@@ -14,7 +13,6 @@ use lib.Ieee.{Float}
 use Rattle.number.specs.Number.{_⊕_, zero⁺}
 use Rattle.number.specs.Table.{_!_}
 use Rattle.number.proofs.Table.{fill-long}
-use Rattle.rows.specs.Memory.{filteredFrom}
 use Rattle.rows.proofs.Cells.{cells-none, cells-one}
 use Rattle.em_counts.specs.Steps.{isStep, isBefore, Counted}
 

@@ -25,3 +25,10 @@ pub record Counted (k : ℕ) (work : List Float) (e : ℕ) (counts columns : Lis
 unfoldable pub dividedAt : ℕ → List Float → List Float → List Float → ℕ → Float
 dividedAt k transition counts columns e =
     if le (columns ! (e % k)) zero⁺ then (transition ! e) else (counts ! e ⊘ columns ! (e % k))
+
+-- all cells, by the places before e of work memory
+unfoldable pub transitionBy : ℕ → List Float → ℕ → List Float → List Float
+transitionBy k transition e work =
+    let counts = fillAt 0 (cellAt (isStep k) (λ _ x. work ! x) e) (k * k) (replicate 256 zero⁺) in
+    let columns = fillAt 0 (cellAt (isBefore k) (λ _ x. work ! x) e) k (replicate 16 zero⁺) in
+    fillAt 0 (dividedAt k transition counts columns) (k * k) (replicate 256 zero⁺)

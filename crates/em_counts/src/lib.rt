@@ -1,16 +1,10 @@
 // The new transition table, by the smoothed rows in work memory.
 ghost use mathlib.Core.Path.{_≡_};
-ghost use Prim.Native.Nat.{ℕ, _+_, _*_, _%_, _^_, _<_, _≤_};
-ghost use lib.ListN.{length, drop, replicate};
+ghost use Prim.Native.Nat.{ℕ, _+_, _*_, _%_, _<_, _≤_};
+ghost use lib.ListN.{length, replicate};
 ghost use Rattle.number.specs.Number.{zero⁺};
 ghost use Rattle.number.specs.Table.{fillAt};
-ghost use Rattle.window.specs.Shape.{Shape};
-ghost use Rattle.params.specs.Parameters.{k, p};
-ghost use Rattle.rows.specs.Rows.{windowsOf};
-ghost use Rattle.rows.specs.Memory.{filteredFrom};
-ghost use Rattle.em_counts.specs.Counts.{newTransition};
-ghost use Rattle.em_counts.specs.Steps.{Counted, dividedAt};
-use params::MsarParams;
+ghost use Rattle.em_counts.specs.Steps.{Counted, dividedAt, transitionBy};
 
 // The windows at the places c·k, .., c·k + k - 1: each label now once, after the one label that they have before.
 fn add_block(
@@ -89,15 +83,19 @@ fn table_of(
     row
 }
 
-// The n smoothed rows stand in work memory; power is k^order.
-pub fn new_transition(q: MsarParams, power: usize, n: usize, work: &[f64]) -> [f64; 256]
-    requires { ⌜ Shape (k q) (p q) ⌝ }
-    requires { ⌜ (0 < p q) × (power ≡ k q ^ p q) × (n ≤ 4096) × (n * windowsOf q ≤ length (now work)) ⌝ }
-    ensures { λ r. ⌜ r ≡ newTransition q n (λ i. drop (filteredFrom (windowsOf q) i) (now (work .entry))) ⌝ }
+// The new table by n smoothed rows in work memory; power is k^order.
+pub fn new_transition(
+    transition: &[f64; 256],
+    k: usize,
+    power: usize,
+    n: usize,
+    work: &[f64],
+) -> [f64; 256]
+    requires { ⌜ (k ≤ 16) × (0 < k) × (power ≤ 256) × (n ≤ 4096) × (n * power * k ≤ length (now work)) ⌝ }
+    ensures { λ r. ⌜ r ≡ transitionBy k (now (transition .entry)) (n * power * k) (now (work .entry)) ⌝ }
 {
-    let k = q.means_count;
     let mut counts = [0.0; 256];
     let mut columns = [0.0; 16];
     add_blocks(work, k, n * power, &mut counts, &mut columns);
-    table_of(&q.transition, &counts, &columns, k)
+    table_of(transition, &counts, &columns, k)
 }

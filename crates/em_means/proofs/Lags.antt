@@ -3,21 +3,21 @@ use Prim.Native.Nat.{ℕ, zero, suc, _+_, _-_, _*_, _/_, _%_, _^_, _<_, _≤_}
 use mathlib.Core.Path.{_≡_, refl, sym, _∙_}
 use mathlib.Core.List.{List}
 use native.Mathlib.Numerals.{add-one}
-use native.Mathlib.Nat.{pow-suc, pow-zero, one-mul, mul-le-mul, mod-lt, mod-eq-of-lt, div-div-eq-div-mul, div-add-mod', div-le-self}
+use native.Mathlib.Nat.{pow-suc, pow-zero, one-mul, mul-le-mul, mod-lt, div-div-eq-div-mul, div-add-mod', div-le-self}
 use native.Mathlib.Omega.{arith}
 use borrow.Author.Tests.{eq-eqb, ne-eqb}
-use lib.Arith.{digits-lt, digits-div, digits-mod}
+use lib.Arith.{digits-lt}
 use lib.ListN.{length, set, replicate, getD-replicate, length-replicate}
 use lib.Ieee.{Float, nan, neg}
 use Rattle.number.specs.Number.{_⊕_, _⊖_, _⊗_, zero⁺, one}
 use Rattle.number.specs.Table.{_!_, fillAt}
 use Rattle.number.proofs.Table.{fill-at, fill-is, fill-set}
-use Rattle.window.specs.Windows.{labels}
 use Rattle.window.proofs.Windows.{label-labels}
 use Rattle.params.specs.declared.MsarParams.{MsarParams}
 use Rattle.params.specs.Parameters.{k, p, φ}
-use Rattle.rows.specs.Rows.{windowsOf}
-use Rattle.density.specs.Steps.{phiAt, phisOf}
+use Rattle.rows.proofs.ByPlace.{label-runs, label-now}
+use Rattle.density.specs.Steps.{phisOf}
+use Rattle.density.proofs.Means.{phi-at}
 use Rattle.rows.specs.Smoothed.{labelAt, timeAt}
 use Rattle.em_means.specs.Means.{dTo, αTo}
 use Rattle.em_means.specs.Steps.{sensitivityTo, sensitivitiesOf, lessLagsTo}
@@ -95,33 +95,18 @@ lag-less count phis y t s l e = rw (add-one l, e)
 -- ---- they are the definition's
 
 module _ (q : MsarParams) (pos : 0 < k q) where
-  -- φ_(l+1) of label s
-  phi-at : (l s : ℕ) → l < p q → s < k q → phisOf q ! (l * k q + s) ≡ φ q s (suc l)
-  unfolding phiAt
-  phi-at l s h i = rw (digits-mod l i, digits-div l i) at (fill-at (phiAt q) (p q * k q) (replicate 112 zero⁺) refl (l * k q + s) (digits-lt h i))
+  coefficient : (l s : ℕ) → l < p q → s < k q → phisOf q ! (l * k q + s) ≡ φ q s (suc l)
+  unfolding φ
+  coefficient l s h i = phi-at (q .ar) (q .«ar_blocks») (k q) (p q) l s h i
 
-  -- the label now of a place
-  pub label-now : (e : ℕ) → labelAt q e 0 ≡ e % windowsOf q % k q
-  unfolding labels
-  label-now e = refl
-
-  pub label-below : (e : ℕ) → labelAt q e 0 < k q
-  label-below e = rw (label-now e) (mod-lt _ pos)
-
-  pub sensitivity-is : (a r l : ℕ) → a < windowsOf q → l ≤ p q → sensitivityTo (k q) (phisOf q) a r l ≡ αTo q a r l
+  pub sensitivity-is : (e r l : ℕ) → l ≤ p q → sensitivityTo (k q) (phisOf q) e r l ≡ αTo q e r l
   unfolding sensitivityTo αTo
-  sensitivity-is a r zero h i = rw (label-now a, mod-eq-of-lt h)
-  sensitivity-is a r (suc l) h i =
-      let b : labelAt q a (suc l) ≡ a / k q ^ suc l % k q = rw (mod-eq-of-lt h) (label-labels (k q) (suc (p q)) a (suc l) (omega arith)) in
-      rw (b, label-now a, mod-eq-of-lt h, phi-at l (a % k q) i (mod-lt a pos), sensitivity-is a r l h (omega arith))
+  sensitivity-is e r zero i = rw (label-now q pos e)
+  sensitivity-is e r (suc l) i =
+      let b : labelAt q e (suc l) ≡ e / k q ^ suc l % k q = label-runs q pos e (suc l) (omega arith) ∙ label-labels (k q) (suc (p q)) e (suc l) (omega arith) in
+      rw (b, label-now q pos e, coefficient l (e % k q) i (mod-lt e pos), sensitivity-is e r l (omega arith))
 
-  pub less-lags-is : (y : List Float) (e l : ℕ) → l ≤ p q → lessLagsTo (k q) (phisOf q) y (timeAt q e .0) (labelAt q e 0) l ≡ dTo q y e l
+  pub less-lags-is : (y : List Float) (e l : ℕ) → l ≤ p q → lessLagsTo (k q) (phisOf q) y (timeAt q e .0) (e % k q) l ≡ dTo q y e l
   unfolding lessLagsTo dTo
   less-lags-is y e zero i = refl
-  less-lags-is y e (suc l) i = rw (phi-at l (labelAt q e 0) i (label-below e), less-lags-is y e l (omega arith))
-
--- a place has the sensitivities of its window
-pub α-window : (q : MsarParams) (e f r l : ℕ) → e % windowsOf q ≡ f % windowsOf q → αTo q e r l ≡ αTo q f r l
-unfolding αTo
-α-window q e f r zero h = rw h
-α-window q e f r (suc l) h = rw (α-window q e f r l h, h)
+  less-lags-is y e (suc l) i = rw (label-now q pos e, coefficient l (e % k q) i (mod-lt e pos), less-lags-is y e l (omega arith))

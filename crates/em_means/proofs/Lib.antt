@@ -2,9 +2,7 @@
 pub mod Lags
 -- one window added to the sums
 pub mod Added
--- the sums, window by window and row by row
+-- the sums place by place, and that they are the definition's
 pub mod Walk
--- what is lent for a row
-pub mod Tables
 -- rows with the same weights
 pub mod Same

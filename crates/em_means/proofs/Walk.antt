@@ -1,33 +1,31 @@
--- The sums followed window by window and row by row. Assumes nothing.
-use Prim.Native.Nat.{ℕ, suc, _+_, _-_, _*_, _/_, _%_, _<_, _≤_}
-use mathlib.Core.Path.{_≡_, refl, sym, ap, subst, _∙_}
+-- The sums followed place by place, and that they are those of the definition. Assumes nothing.
+use Prim.Native.Nat.{ℕ, suc, _+_, _*_, _/_, _%_, _^_, _<_, _≤_}
+use mathlib.Core.Path.{_≡_, refl, _∙_}
 use mathlib.Core.Bool.{Bool, true, false, _&&_}
 use mathlib.Core.List.{List}
-use native.Mathlib.Nat.{zero-add, mod-lt, mod-eq-of-lt, div-lt-iff-lt-mul, mul-le-mul}
-use native.Mathlib.Omega.{arith}
-use lib.Arith.{digits-div, digits-mod}
-use lib.ListN.{drop, replicate, getD-replicate, length-replicate}
-use lib.Ieee.{Float, nan, neg, ne, sub}
-use Rattle.number.specs.Number.{if_then_else_, _⊕_, _⊖_, _⊗_, _⊘_, zero⁺}
-use Rattle.number.specs.Sums.{sumWhere}
+use native.Mathlib.Nat.{mod-lt, div-lt-iff-lt-mul, mul-le-mul, le-refl}
+use lib.Arith.{digits-div}
+use lib.ListN.{length, replicate}
+use lib.Ieee.{Float, neg, ne, sub}
+use Rattle.number.specs.Number.{if_then_else_, _⊕_, _⊖_, _⊘_, zero⁺}
 use Rattle.number.specs.Table.{_!_, fillAt}
-use Rattle.number.proofs.Table.{fillAt-ext, fillAt-rest, fillAt-over, fill-at}
+use Rattle.number.proofs.Sums.{where-ext}
+use Rattle.number.proofs.Table.{fillAt-ext, fill-at, fill-long}
 use Rattle.params.specs.declared.MsarParams.{MsarParams}
 use Rattle.params.specs.Parameters.{k, p}
 use Rattle.rows.specs.Rows.{windowsOf}
-use Rattle.rows.specs.Smoothed.{labelAt, weightAt, precision}
-use Rattle.em_means.specs.Means.{dTo, α, sensitive}
-use Rattle.em_means.specs.Steps.{sensitivitiesOf, cellAdded, sideAdded, cellSeen, sideSeen, cellTo, sideTo, Summed, Lent}
-use Rattle.em_means.proofs.Lags.{label-now, α-window, sensitivity-at}
-use Rattle.em_means.proofs.Added.{fillAt-own}
-
--- ---- a list filled, and its filled part again
-
-pub fill-again : (f g h : ℕ → Float) (n : ℕ) (l : List Float) {m m′ : List Float} → m ≡ fillAt 0 f n l → m′ ≡ fillAt 0 g n m
-    → ((i : ℕ) → i < n → g i ≡ h i) → m′ ≡ fillAt 0 h n l
-fill-again f g h n l {m} e e′ s =
-    let rest : drop n m ≡ drop n l = rw e (fillAt-rest 0 f n l n (omega arith) (omega arith)) in
-    e′ ∙ fillAt-over g n m l rest ∙ fillAt-ext 0 g n l h s
+use Rattle.rows.specs.Smoothed.{rowsIn, places, precision}
+use Rattle.rows.specs.Steps.{cellAt, precisionIn}
+use Rattle.rows.proofs.Cells.{cells-none, cells-more}
+use Rattle.rows.proofs.ByPlace.{precision-in}
+use Rattle.rows.proofs.SmoothedTable.{weight-in-memory}
+use Rattle.density.specs.Steps.{variancesFrom, phisFrom, phisOf}
+use Rattle.density.proofs.Tables.{variances-at}
+use Rattle.em_ridge.specs.Ridge.{solveOrKeep}
+use Rattle.em_ridge.specs.declared.Update.{Update}
+use Rattle.em_means.specs.Means.{dTo, sensitive, meansCell, meansSide, newMeans}
+use Rattle.em_means.specs.Steps.{sensitivityTo, sensitivitiesOf, lessLagsAt, lessLagsIn, cellAdded, sideAdded, cellSeen, sideSeen, felt, cellTerm, sideTerm, Summed, meansBy}
+use Rattle.em_means.proofs.Lags.{sensitivity-at, sensitivity-is, less-lags-is}
 
 -- two tests one after the other are one
 both : {A : Type 0} (b c : Bool) (x y : A) → (if b then (if c then x else y) else y) ≡ (if b && c then x else y)
@@ -39,100 +37,97 @@ less-is : (x t : Float) → x ⊖ t ≡ x ⊕ neg t
 unfolding sub
 less-is x t = refl
 
--- ---- the sums over one place more
+-- ---- the sums, a place further
 
-module _ (q : MsarParams) (rows : ℕ → List Float) where
-  cell-suc : (u x : ℕ) {count : ℕ} → k q ≡ count
-      → cellTo q rows (suc u) x
-      ≡ (if sensitive q rows (x / count) u
-      then cellTo q rows u x ⊕ precision q rows u ⊗ α q u (x / count) ⊗ α q u (x % count)
-      else cellTo q rows u x)
-  unfolding cellTo sumWhere
-  cell-suc u x e = rw (← e)
+module _ (k order : ℕ) (phis work : List Float) (w d : ℕ → Float) (few : k ≤ 16) where
+  square : k * k ≤ 256
+  square = mul-le-mul few few
 
-  side-suc : (y : List Float) (u r : ℕ)
-      → sideTo q rows y (suc u) r
-      ≡ (if sensitive q rows r u then sideTo q rows y u r ⊕ neg (precision q rows u ⊗ dTo q y u (p q) ⊗ α q u r) else sideTo q rows y u r)
-  unfolding sideTo sumWhere
-  side-suc y u r = refl
+  pub summed-none : Summed k order phis work w d 0 (replicate 256 zero⁺) (replicate 16 zero⁺)
+  summed-none = record { cells = cells-none _ _ (k * k) 256 square; sides = cells-none _ _ k 16 few }
 
--- ---- place e, window a of row i
+  module _ {e : ℕ} {mat rhs : List Float} (S : Summed k order phis work w d e mat rhs) where
+    pub mat-long : length mat ≡ 256
+    mat-long = fill-long _ (k * k) (replicate 256 zero⁺) (S .cells) square
 
-module _ {q : MsarParams} {y : List Float} {rows : ℕ → List Float} {i count order m : ℕ} {phis variances ds work : List Float} {at : ℕ}
-    (lent : Lent q y rows i count order m phis variances ds work at) (pos : 0 < count) (a : ℕ) (h : a < m) where
-  place-row : (i * m + a) / windowsOf q ≡ i
-  place-row = rw (lent .windows-are) (digits-div i h)
+    pub rhs-long : length rhs ≡ 16
+    rhs-long = fill-long _ k (replicate 16 zero⁺) (S .sides) few
 
-  place-window : (i * m + a) % windowsOf q ≡ a
-  place-window = rw (lent .windows-are) (digits-mod i h)
+    module _ (g v δ : Float) (pos : 0 < k) (eg : g ≡ work ! e) (ev : g ⊘ v ≡ w e) (ed : δ ≡ d e) where
+      cell-next : (x : ℕ) → x < k * k
+          → cellSeen (sensitivitiesOf k order phis e) k v g mat x ≡ (if felt k order phis work (x / k) e then (mat ! x ⊕ cellTerm k order phis w x e) else (mat ! x))
+      unfolding cellSeen cellAdded felt cellTerm
+      cell-next x h =
+          rw (ev, eg, sensitivity-at k order phis e (x / k) (div-lt-iff-lt-mul pos .1 h), sensitivity-at k order phis e (x % k) (mod-lt x pos))
+          (both (ne (work ! e) zero⁺) (ne (sensitivityTo k phis e (x / k) order) zero⁺) _ _)
 
-  weight-is : weightAt q rows (i * m + a) ≡ work ! (at + a)
-  weight-is = rw (place-row, place-window) (lent .weights-are a h)
+      side-next : (r : ℕ) → r < k
+          → sideSeen (sensitivitiesOf k order phis e) k v g δ rhs r ≡ (if felt k order phis work r e then (rhs ! r ⊕ sideTerm k order phis w d r e) else (rhs ! r))
+      unfolding sideSeen sideAdded felt sideTerm
+      side-next r h =
+          rw (ev, eg, ed, sensitivity-at k order phis e r h, less-is)
+          (both (ne (work ! e) zero⁺) (ne (sensitivityTo k phis e r order) zero⁺) _ _)
 
-  label-is : labelAt q (i * m + a) 0 ≡ a % count
-  label-is = label-now q (rw (lent .count-is) pos) (i * m + a) ∙ rw (place-window, lent .count-is)
+      pub summed-more : {mat′ rhs′ : List Float} → mat′ ≡ fillAt 0 (cellSeen (sensitivitiesOf k order phis e) k v g mat) (k * k) mat
+          → rhs′ ≡ fillAt 0 (sideSeen (sensitivitiesOf k order phis e) k v g δ rhs) k rhs
+          → Summed k order phis work w d (e + 1) mat′ rhs′
+      summed-more em er = record {
+        cells = cells-more _ _ (k * k) e _ (S .cells) square (em ∙ fillAt-ext 0 _ (k * k) mat _ cell-next);
+        sides = cells-more _ _ k e _ (S .sides) few (er ∙ fillAt-ext 0 _ k rhs _ side-next);
+      }
 
-  precision-is : {s : ℕ} → s ≡ a % count → precision q rows (i * m + a) ≡ work ! (at + a) ⊘ variances ! s
-  precision-is e = rw (weight-is, label-is, e) (ap (λ (v : Float). work ! (at + a) ⊘ v) (sym (lent .variances-are (a % count) (mod-lt a pos))))
+-- ---- what is made once a row, by place
 
-  α-is : (r : ℕ) → r < count → α q (i * m + a) r ≡ sensitivitiesOf count order phis a ! r
-  α-is r j =
-      let w : a < windowsOf q = rw (lent .windows-are) h in
-      α-window q (i * m + a) a r (p q) (place-window ∙ sym (mod-eq-of-lt w)) ∙ sym (sensitivity-at count order phis a r j ∙ lent .alphas-are a r h j)
+-- what is left of the reading of row i
+pub less-lags-there : (k order m i a t : ℕ) (phis y l : List Float) {ds : List Float} → 0 < k → t ≡ order + i → a < m → {s : ℕ} → (i * m + a) % k ≡ s
+    → ds ≡ fillAt 0 (lessLagsAt k order phis y t) k l → ds ! s ≡ lessLagsIn k order m phis y (i * m + a)
+unfolding lessLagsAt lessLagsIn
+less-lags-there k order m i a t phis y l pos z h now e =
+    rw (← now, fill-at _ k l e ((i * m + a) % k) (mod-lt (i * m + a) pos), z, digits-div i h)
 
-  sensitive-is : (r : ℕ) → r < count → sensitive q rows r (i * m + a) ≡ (ne (work ! (at + a)) zero⁺ && ne (sensitivitiesOf count order phis a ! r) zero⁺)
-  unfolding sensitive
-  sensitive-is r j = rw (weight-is, α-is r j)
+-- ---- the equations
 
-  d-is : {s : ℕ} → s ≡ a % count → dTo q y (i * m + a) (p q) ≡ ds ! s
-  d-is e = rw e (sym (lent .ds-are a h))
+pub means-by : (k order blocks count : ℕ) (means ar variances y : List Float) (n : ℕ) (work : List Float) (m : ℕ) {phis own mat rhs : List Float} {u : Update}
+    → m ≡ k ^ suc order → phis ≡ phisFrom ar blocks k order → own ≡ variancesFrom variances count k
+    → Summed k order phis work (precisionIn k own work) (lessLagsIn k order m phis y) (n * m) mat rhs
+    → u ≡ solveOrKeep 1 k mat rhs means
+    → u ≡ meansBy k order blocks count means ar variances y n work
+unfolding meansBy
+means-by k order blocks count means ar variances y n work m w f o S e =
+    let all = rw (w, f, o) at S in
+    e ∙ rw (all .cells, all .sides)
 
-  next : i * m + (a + 1) ≡ suc (i * m + a)
-  next = omega arith
+module _ (q : MsarParams) (pos : 0 < k q) (y work : List Float) (n : ℕ) where
+  abbrev w : ℕ → Float
+  w = precisionIn (k q) (variancesFrom (q .variances) (q .«variances_count») (k q)) work
 
-  module _ {s : ℕ} (e : s ≡ a % count) where
-    cell-next : (mat : List Float) (x : ℕ) → x / count < count → mat ! x ≡ cellTo q rows (i * m + a) x
-        → cellSeen (sensitivitiesOf count order phis a) count (variances ! s) (work ! (at + a)) mat x ≡ cellTo q rows (i * m + (a + 1)) x
-    unfolding cellSeen cellAdded
-    cell-next mat x j b =
-        rw (next, cell-suc q rows (i * m + a) x (lent .count-is), sensitive-is _ j, precision-is e, α-is _ j, α-is _ (mod-lt x pos), ← b)
-        (both (ne (work ! (at + a)) zero⁺) (ne (sensitivitiesOf count order phis a ! (x / count)) zero⁺)
-        (mat ! x ⊕ work ! (at + a) ⊘ variances ! s ⊗ sensitivitiesOf count order phis a ! (x / count) ⊗ sensitivitiesOf count order phis a ! (x % count))
-        (mat ! x))
+  felt-is : (r e : ℕ) → e < places q n → felt (k q) (p q) (phisOf q) work r e ≡ sensitive q (rowsIn q work) r e
+  unfolding felt sensitive
+  felt-is r e _ = rw (weight-in-memory q work e, sensitivity-is q pos e r (p q) (le-refl (p q)))
 
-    side-next : (rhs : List Float) (r : ℕ) → r < count → rhs ! r ≡ sideTo q rows y (i * m + a) r
-        → sideSeen (sensitivitiesOf count order phis a) count (variances ! s) (work ! (at + a)) (ds ! s) rhs r ≡ sideTo q rows y (i * m + (a + 1)) r
-    unfolding sideSeen sideAdded
-    side-next rhs r j b =
-        rw (next, side-suc q rows y (i * m + a) r, sensitive-is r j, precision-is e, α-is r j, d-is e, ← b, less-is)
-        (both (ne (work ! (at + a)) zero⁺) (ne (sensitivitiesOf count order phis a ! r) zero⁺)
-        (rhs ! r ⊕ neg (work ! (at + a) ⊘ variances ! s ⊗ ds ! s ⊗ sensitivitiesOf count order phis a ! r))
-        (rhs ! r))
+  w-is : (e : ℕ) → w e ≡ precision q (rowsIn q work) e
+  w-is e = precision-in q pos e work _ (variances-at q (e % k q) (mod-lt e pos))
 
-    pub window-more : {mat mat′ rhs rhs′ : List Float} → Summed q y rows (i * m + a) mat rhs
-        → mat′ ≡ fillAt 0 (cellSeen (sensitivitiesOf count order phis a) count (variances ! s) (work ! (at + a)) mat) (count * count) mat
-        → rhs′ ≡ fillAt 0 (sideSeen (sensitivitiesOf count order phis a) count (variances ! s) (work ! (at + a)) (ds ! s) rhs) count rhs
-        → Summed q y rows (i * m + (a + 1)) mat′ rhs′
-    window-more {mat} {mat′} {rhs} {rhs′} w c d =
-        let cells : mat ≡ fillAt 0 (cellTo q rows (i * m + a)) (count * count) (replicate 256 zero⁺) = subst (λ (c : ℕ). mat ≡ fillAt 0 (cellTo q rows (i * m + a)) (c * c) (replicate 256 zero⁺)) (lent .count-is) (w .cells) in
-        let sides : rhs ≡ fillAt 0 (sideTo q rows y (i * m + a)) count (replicate 16 zero⁺) = subst (λ (c : ℕ). rhs ≡ fillAt 0 (sideTo q rows y (i * m + a)) c (replicate 16 zero⁺)) (lent .count-is) (w .sides) in
-        record {
-          cells =
-              subst (λ (c : ℕ). mat′ ≡ fillAt 0 (cellTo q rows (i * m + (a + 1))) (c * c) (replicate 256 zero⁺)) (sym (lent .count-is))
-              (fill-again _ _ (cellTo q rows (i * m + (a + 1))) (count * count) _ cells c
-              (λ x j. cell-next mat x (div-lt-iff-lt-mul pos .1 j) (fill-at _ (count * count) _ cells x j)));
-          sides =
-              subst (λ (c : ℕ). rhs′ ≡ fillAt 0 (sideTo q rows y (i * m + (a + 1))) c (replicate 16 zero⁺)) (sym (lent .count-is))
-              (fill-again _ _ (sideTo q rows y (i * m + (a + 1))) count _ sides d
-              (λ r j. side-next rhs r j (fill-at _ count _ sides r j)));
-        }
+  d-is : (e : ℕ) → lessLagsIn (k q) (p q) (windowsOf q) (phisOf q) y e ≡ dTo q y e (p q)
+  unfolding lessLagsIn
+  d-is e = less-lags-is q pos y e (p q) (le-refl (p q))
 
--- ---- no place yet
+  cell-is : (x : ℕ) → cellAt (λ x. felt (k q) (p q) (phisOf q) work (x / k q)) (cellTerm (k q) (p q) (phisOf q) w) (places q n) x ≡ meansCell q (rowsIn q work) n (x / k q) (x % k q)
+  unfolding cellAt cellTerm meansCell
+  cell-is x =
+      where-ext _ _ _ _ (places q n) (felt-is (x / k q))
+      (λ e _. rw (w-is e, sensitivity-is q pos e (x / k q) (p q) (le-refl (p q)), sensitivity-is q pos e (x % k q) (p q) (le-refl (p q))))
 
-pub summed-none : (q : MsarParams) (y : List Float) (rows : ℕ → List Float) {mat rhs : List Float} → k q ≤ 16
-    → mat ≡ replicate 256 zero⁺ → rhs ≡ replicate 16 zero⁺ → Summed q y rows 0 mat rhs
-unfolding cellTo sideTo sumWhere
-summed-none q y rows h e e′ = record {
-  cells = e ∙ fillAt-own 0 _ (k q * k q) _ (λ x j. sym (rw zero-add (getD-replicate 256 x zero⁺ nan (omega (arith, mul-le-mul h h))))) (omega (arith, mul-le-mul h h, length-replicate 256 zero⁺));
-  sides = e′ ∙ fillAt-own 0 _ (k q) _ (λ x j. sym (rw zero-add (getD-replicate 16 x zero⁺ nan (omega arith)))) (omega (arith, length-replicate 16 zero⁺));
-}
+  side-is : (r : ℕ) → cellAt (felt (k q) (p q) (phisOf q) work) (sideTerm (k q) (p q) (phisOf q) w (lessLagsIn (k q) (p q) (windowsOf q) (phisOf q) y)) (places q n) r ≡ meansSide q (rowsIn q work) y n r
+  unfolding cellAt sideTerm meansSide
+  side-is r =
+      where-ext _ _ _ _ (places q n) (felt-is r)
+      (λ e _. rw (w-is e, d-is e, sensitivity-is q pos e r (p q) (le-refl (p q))))
+
+  pub means-are : meansBy (k q) (p q) (q .«ar_blocks») (q .«variances_count») (q .means) (q .ar) (q .variances) y n work ≡ newMeans q y n (rowsIn q work)
+  unfolding meansBy newMeans
+  means-are =
+      rw (
+        fillAt-ext 0 _ (k q * k q) (replicate 256 zero⁺) (λ e. meansCell q (rowsIn q work) n (e / k q) (e % k q)) (λ x _. cell-is x),
+        fillAt-ext 0 _ (k q) (replicate 16 zero⁺) (meansSide q (rowsIn q work) y n) (λ r _. side-is r),
+      )

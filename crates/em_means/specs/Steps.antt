@@ -1,21 +1,21 @@
--- What the steps of the code give: rows made once a call, a row or a window, and sums over the first places. The proofs show that they are the definition's.
-use Prim.Native.Nat.{ℕ, zero, suc, _+_, _-_, _*_, _/_, _%_, _^_, _<_}
+-- What the steps of the code give, of parts that are lent one by one: rows made once a row or a window, and sums by place of work memory. The proofs show
+-- that they are the definition's.
+use Prim.Native.Nat.{ℕ, zero, suc, _+_, _-_, _*_, _/_, _%_, _^_}
 use mathlib.Core.Path.{_≡_}
+use mathlib.Core.Bool.{Bool, _&&_}
 use mathlib.Core.List.{List}
 use lib.ListN.{replicate}
 use lib.Ieee.{Float, neg, ne}
 use Rattle.number.specs.Number.{if_then_else_, _=?_, _⊕_, _⊖_, _⊗_, _⊘_, zero⁺, one}
-use Rattle.number.specs.Sums.{sumWhere}
 use Rattle.number.specs.Table.{_!_, fillAt}
-use Rattle.params.specs.declared.MsarParams.{MsarParams}
-use Rattle.params.specs.Parameters.{k, p, variance}
-use Rattle.rows.specs.Rows.{windowsOf}
-use Rattle.rows.specs.Smoothed.{precision}
-use Rattle.em_means.specs.Means.{dTo, α, sensitive}
+use Rattle.rows.specs.Steps.{cellAt, precisionIn}
+use Rattle.density.specs.Steps.{variancesFrom, phisFrom}
+use Rattle.em_ridge.specs.Ridge.{solveOrKeep}
+use Rattle.em_ridge.specs.declared.Update.{Update}
 
--- ---- by window number and label; phis has φ_(l+1) of label s at place l · k + s
+-- ---- by place, or window number, and label; phis has φ_(l+1) of label s at place l · k + s
 
--- the sensitivity to the mean of label r under window a, with its first l lags
+-- the sensitivity to the mean of label r at place a, with its first l lags
 unfoldable pub sensitivityTo : ℕ → List Float → ℕ → ℕ → ℕ → Float
 sensitivityTo k phis a r zero = if a % k =? r then neg one else zero⁺
 sensitivityTo k phis a r (suc l) =
@@ -33,6 +33,10 @@ lessLagsTo k phis y t s (suc l) = lessLagsTo k phis y t s l ⊖ phis ! (l * k + 
 -- the same with all its lags
 unfoldable pub lessLagsAt : ℕ → ℕ → List Float → List Float → ℕ → ℕ → Float
 lessLagsAt k order phis y t s = lessLagsTo k phis y t s order
+
+-- that at place e, of row e / m
+unfoldable pub lessLagsIn : ℕ → ℕ → ℕ → List Float → List Float → ℕ → Float
+lessLagsIn k order m phis y e = lessLagsTo k phis y (order + e / m) (e % k) order
 
 -- ---- one window added, whose sensitivities are `row`
 
@@ -54,25 +58,30 @@ cellSeen row k v g mat x = if ne g zero⁺ then cellAdded row k (g ⊘ v) mat x 
 unfoldable pub sideSeen : List Float → ℕ → Float → Float → Float → List Float → ℕ → Float
 sideSeen row k v g d rhs r = if ne g zero⁺ then sideAdded row k (g ⊘ v) d rhs r else (rhs ! r)
 
--- ---- the sums over the first e places
+-- ---- the sums over all places before e; w has the precisions by place, d what is left of the readings
 
-module _ (q : MsarParams) (rows : ℕ → List Float) where
-  unfoldable pub cellTo : ℕ → ℕ → Float
-  cellTo e x = sumWhere (sensitive q rows (x / k q)) (λ u. precision q rows u ⊗ α q u (x / k q) ⊗ α q u (x % k q)) e
+-- place e counts for label r
+unfoldable pub felt : ℕ → ℕ → List Float → List Float → ℕ → ℕ → Bool
+felt k order phis work r e = ne (work ! e) zero⁺ && ne (sensitivityTo k phis e r order) zero⁺
 
-  unfoldable pub sideTo : List Float → ℕ → ℕ → Float
-  sideTo y e r = sumWhere (sensitive q rows r) (λ u. neg (precision q rows u ⊗ dTo q y u (p q) ⊗ α q u r)) e
+unfoldable pub cellTerm : ℕ → ℕ → List Float → (ℕ → Float) → ℕ → ℕ → Float
+cellTerm k order phis w x e = w e ⊗ sensitivityTo k phis e (x / k) order ⊗ sensitivityTo k phis e (x % k) order
 
--- table and right-hand side hold them
-pub record Summed (q : MsarParams) (y : List Float) (rows : ℕ → List Float) (e : ℕ) (mat rhs : List Float) : Type 0 where
-  pub cells : mat ≡ fillAt 0 (cellTo q rows e) (k q * k q) (replicate 256 zero⁺)
-  pub sides : rhs ≡ fillAt 0 (sideTo q rows y e) (k q) (replicate 16 zero⁺)
+unfoldable pub sideTerm : ℕ → ℕ → List Float → (ℕ → Float) → (ℕ → Float) → ℕ → ℕ → Float
+sideTerm k order phis w d r e = neg (w e ⊗ d e ⊗ sensitivityTo k phis e r order)
 
--- what is lent for row i, whose weights stand from `at` on in work memory
-pub record Lent (q : MsarParams) (y : List Float) (rows : ℕ → List Float) (i : ℕ) (count order m : ℕ) (phis variances ds work : List Float) (at : ℕ) : Type 0 where
-  pub count-is : k q ≡ count
-  pub windows-are : windowsOf q ≡ m
-  pub alphas-are : (a r : ℕ) → a < m → r < count → sensitivityTo count phis a r order ≡ α q a r
-  pub variances-are : (s : ℕ) → s < count → variances ! s ≡ variance q s
-  pub ds-are : (a : ℕ) → a < m → ds ! (a % count) ≡ dTo q y (i * m + a) (p q)
-  pub weights-are : (a : ℕ) → a < m → rows i ! a ≡ work ! (at + a)
+pub record Summed (k order : ℕ) (phis work : List Float) (w d : ℕ → Float) (e : ℕ) (mat rhs : List Float) : Type 0 where
+  pub cells : mat ≡ fillAt 0 (cellAt (λ x. felt k order phis work (x / k)) (cellTerm k order phis w) e) (k * k) (replicate 256 zero⁺)
+  pub sides : rhs ≡ fillAt 0 (cellAt (felt k order phis work) (sideTerm k order phis w d) e) k (replicate 16 zero⁺)
+
+-- the equations solved, by n rows in work memory
+unfoldable pub meansBy : ℕ → ℕ → ℕ → ℕ → List Float → List Float → List Float → List Float → ℕ → List Float → Update
+meansBy k order blocks count means ar variances y n work =
+    let m = k ^ suc order in
+    let phis = phisFrom ar blocks k order in
+    let w = precisionIn k (variancesFrom variances count k) work in
+    let d = lessLagsIn k order m phis y in
+    solveOrKeep 1 k
+    (fillAt 0 (cellAt (λ x. felt k order phis work (x / k)) (cellTerm k order phis w) (n * m)) (k * k) (replicate 256 zero⁺))
+    (fillAt 0 (cellAt (felt k order phis work) (sideTerm k order phis w d) (n * m)) k (replicate 16 zero⁺))
+    means

@@ -69,7 +69,7 @@ fn update_by(solution: Solution, which: usize) -> Update
 // The n equations a x = b with the ridge. Where there is no scale to measure it by, the incumbent stays. `which` is the
 // place that a refusal names.
 pub fn solve_or_keep(
-    a: [f64; 256],
+    mut a: [f64; 256],
     b: [f64; 16],
     n: usize,
     incumbent: [f64; 16],
@@ -85,8 +85,7 @@ pub fn solve_or_keep(
             values: incumbent,
         };
     }
-    let mut table = a;
-    add_ridge(&mut table, n, scale);
-    let solution = linsolve::solve(table, b, n);
+    add_ridge(&mut a, n, scale);
+    let solution = linsolve::solve(a, b, n);
     update_by(solution, which)
 }

@@ -3,6 +3,8 @@
 use Prim.Native.Nat.{ℕ, suc, _+_, _*_, _^_, _<_, _≤_}
 use mathlib.Core.Path.{_≡_, refl, sym, ap, subst, _∙_}
 use mathlib.Core.List.{List}
+use native.Mathlib.Nat.{pow-suc, mul-assoc, mul-le-mul-left}
+use native.Mathlib.Omega.{arith}
 use lib.Ieee.{Float}
 use Rattle.refusal.specs.declared.Check.{Check}
 use Rattle.refusal.specs.declared.Check.the-variants.{Passed, Failed}
@@ -68,6 +70,20 @@ still-ready {q′} {q} {n = n} {lent = lent} a r =
       blocks = subst (λ (x : ℕ). x ≤ 16) (sym (a .blocks)) (r .blocks);
       variances = subst (λ (x : ℕ). x ≤ 16) (sym (a .variances)) (r .variances);
     }
+
+-- ---- what a step is handed, as its counts take it
+
+module _ {q : MsarParams} {y : List Float} {floor : Float} {power n lent : ℕ} (r : Ready q y floor power n lent) where
+  windows : power * k q ≡ windowsOf q
+  windows = ap (λ (x : ℕ). x * k q) (r .power-is) ∙ sym (pow-suc (k q) (p q))
+
+  pub ready-power : power ≤ 256
+  ready-power =
+      let some : 1 ≤ k q = omega (arith, r .shape .low) in
+      omega (arith, mul-le-mul-left power some, windows, r .shape .few)
+
+  pub ready-places : n * power * k q ≤ lent
+  ready-places = omega (arith, mul-assoc n power (k q), ap (λ (x : ℕ). n * x) windows, r .fits)
 
 -- ---- the counts stay, and the parameters pass their checks
 

@@ -36,27 +36,68 @@ fn improve(q: MsarParams, y: &[f64], floor: f64, power: usize, n: usize, work: &
     requires { ⌜ Ready q (now y) floor power n (length (now work)) ⌝ }
     ensures { λ r. ⌜ r ≡ improved (now (y .entry)) n (λ i. drop (filteredFrom (windowsOf q) i) (now (work .entry))) q ⌝ }
 {
-    let update = em_means::new_means(q, y, power, n, work);
+    let k = q.means_count;
+    let order = q.order;
+    let blocks = q.ar_blocks;
+    let count = q.variances_count;
+    let old = q.means;
+    let ar = q.ar;
+    let variances = q.variances;
+    let update = em_means::new_means(
+        &old,
+        &ar,
+        &variances,
+        k,
+        order,
+        blocks,
+        count,
+        y,
+        power,
+        n,
+        work,
+    );
     let check = update.check;
     if let Check::Failed(r) = check {
         return unsolved(r);
     }
     let means = update.values;
-    let mut next = q;
-    next.means = means;
-    let blocks = em_coefficients::new_ar(next, y, power, n, work);
-    let check = blocks.check;
+    let solved = em_coefficients::new_ar(
+        &means,
+        &ar,
+        &variances,
+        k,
+        order,
+        blocks,
+        count,
+        y,
+        power,
+        n,
+        work,
+    );
+    let check = solved.check;
     if let Check::Failed(r) = check {
         return unsolved(r);
     }
-    let ar = blocks.ar;
-    next.ar = ar;
-    let variances = em_variances::new_variances(next, y, floor, power, n, work);
+    let new = solved.ar;
+    let found = em_variances::new_variances(
+        &means,
+        &new,
+        variances,
+        k,
+        order,
+        blocks,
+        count,
+        y,
+        floor,
+        power,
+        n,
+        work,
+    );
     Gaussian {
         check: Check::Passed,
         means,
-        ar,
-        variances,
+        ar: new,
+        variances: found,
     }
 }
 
@@ -89,7 +130,7 @@ pub fn step(q: MsarParams, y: &[f64], floor: f64, power: usize, n: usize, work: 
     next.ar = ar;
     let variances = twice.variances;
     next.variances = variances;
-    let transition = em_counts::new_transition(q, power, n, work);
+    let transition = em_counts::new_transition(&q.transition, q.means_count, power, n, work);
     next.transition = transition;
     checked(next)
 }

@@ -1,8 +1,4 @@
--- one lag more, block by block
-mod Lags
--- the residuals of a row, lag by lag
-mod Residuals
--- sums in the cells of an array, gone on place by place and row by row
-mod Walk
--- the sums are the definition's
+-- factors with their signs turned
+mod Turned
+-- the sums place by place, and that they are the definition's
 pub mod Sums

@@ -1,42 +1,42 @@
--- What the steps of the code give: the residuals of a row by window number, made lag by lag, and the sums gone on with row by row. The proofs show that
+-- What the steps of the code give, of parts that are lent one by one: residuals made lag by lag, and sums by place of work memory. The proofs show that
 -- they are those of the definition.
-use Prim.Native.Nat.{ℕ, zero, suc, _+_, _-_, _/_, _%_}
-use mathlib.Core.Bool.{Bool, _&&_}
+use Prim.Native.Nat.{ℕ, suc, _+_, _*_, _/_, _%_, _^_}
+use mathlib.Core.Path.{_≡_}
 use mathlib.Core.List.{List}
-use lib.Ieee.{Float, ne, lt}
-use Rattle.number.specs.Number.{if_then_else_, _=?_, _⊕_, _⊖_, _⊗_, _⊘_, zero⁺, maxOf}
-use Rattle.number.specs.Table.{_!_}
-use Rattle.window.specs.Windows.{label, labels}
-use Rattle.window.specs.declared.Time.{Time}
-use Rattle.params.specs.declared.MsarParams.{MsarParams}
-use Rattle.params.specs.Parameters.{k, p, μ, φ, blockOf}
+use lib.ListN.{replicate}
+use lib.Ieee.{Float, neg, lt}
+use Rattle.number.specs.Number.{if_then_else_, _⊖_, _⊗_, _⊘_, zero⁺, maxOf}
+use Rattle.number.specs.Table.{_!_, fillAt}
+use Rattle.window.specs.Windows.{labels}
+use Rattle.rows.specs.Steps.{cellAt, countsFor}
+use Rattle.density.specs.Steps.{lagsTo, phisFrom}
 
--- the residual of a window of labels w at time t, with its first l lags
-unfoldable pub residualOf : MsarParams → List Float → Time → List ℕ → ℕ → Float
-residualOf q y t w zero = y ! (t .0) ⊖ μ q (label w 0)
-residualOf q y t w (suc l) = residualOf q y t w l ⊖ φ q (label w 0) (suc l) ⊗ (y ! (t .0 - suc l) ⊖ μ q (label w (suc l)))
+-- the coefficients by lag and label, with their signs turned
+unfoldable pub turned : List Float → List Float
+turned phis = fillAt 0 (λ e. neg (phis ! e)) 112 phis
 
--- that of window a
-unfoldable pub residualAt : MsarParams → List Float → Time → ℕ → ℕ → Float
-residualAt q y t l a = residualOf q y t (labels (k q) (suc (p q)) a) l
+-- the residual of window a for the reading at time t; the signs of phis are turned
+unfoldable pub residualBy : ℕ → ℕ → List Float → List Float → List Float → ℕ → ℕ → Float
+residualBy k order phis means y t a = lagsTo (λ s. y ! t ⊖ means ! s) k phis means y t (labels k (suc order) a) order
 
--- one lag more, for the windows of one label more: window c goes on from c % step, and its new oldest label is c / step
-unfoldable pub laggedAt : List Float → List Float → List Float → Float → ℕ → ℕ → ℕ → ℕ → Float
-laggedAt row phis means reading from k step c = row ! (c % step) ⊖ phis ! (from + c % k) ⊗ (reading ⊖ means ! (c / step))
+-- that at place e: window e % m of row e / m
+unfoldable pub residualIn : ℕ → ℕ → ℕ → List Float → List Float → List Float → ℕ → Float
+residualIn k order m phis means y e = residualBy k order phis means y (order + e / m) (e % m)
 
--- a sum that goes on from x, over those i below n for which the test holds
-unfoldable pub sumOn : Float → (ℕ → Bool) → (ℕ → Float) → ℕ → Float
-sumOn x holds f zero = x
-sumOn x holds f (suc n) = if holds n then sumOn x holds f n ⊕ f n else sumOn x holds f n
-
--- window a of a row, whose label now is a % k, counts for variance b
-unfoldable pub counted : ℕ → ℕ → List Float → ℕ → ℕ → Bool
-counted k count row b a = ne (row ! a) zero⁺ && blockOf count (a % k) =? b
-
--- what it adds
-unfoldable pub squareOf : List Float → List Float → ℕ → Float
-squareOf row residuals a = row ! a ⊗ residuals ! a ⊗ residuals ! a
+-- the sums over all places before e, for each variance; ε has the residuals by place
+pub record Summed (k count : ℕ) (work : List Float) (ε : ℕ → Float) (e : ℕ) (squares weights : List Float) : Type 0 where
+  pub squared : squares ≡ fillAt 0 (cellAt (countsFor k count work) (λ _ x. work ! x ⊗ ε x ⊗ ε x) e) 16 (replicate 16 zero⁺)
+  pub weighed : weights ≡ fillAt 0 (cellAt (countsFor k count work) (λ _ x. work ! x) e) 16 (replicate 16 zero⁺)
 
 -- the new variance of the sums over all rows
 unfoldable pub varianceOf : Float → Float → Float → Float → Float
 varianceOf floor square weight old = if lt zero⁺ weight then maxOf (square ⊘ weight) floor else old
+
+-- all of them, by n rows in work memory
+unfoldable pub variancesBy : ℕ → ℕ → ℕ → ℕ → List Float → List Float → List Float → List Float → Float → ℕ → List Float → List Float
+variancesBy k order blocks count means ar variances y floor n work =
+    let m = k ^ suc order in
+    let ε = residualIn k order m (turned (phisFrom ar blocks k order)) means y in
+    let squares = cellAt (countsFor k count work) (λ _ x. work ! x ⊗ ε x ⊗ ε x) (n * m) in
+    let weights = cellAt (countsFor k count work) (λ _ x. work ! x) (n * m) in
+    fillAt 0 (λ b. varianceOf floor (squares b) (weights b) (variances ! b)) count variances

@@ -30,7 +30,7 @@ use Rattle.stationary.proofs.Examples as shares
 use Rattle.binding.specs.Binding.{readingCheck, seriesCheck, boundCheck, paramsCheck, admittedCheck}
 use Rattle.binding.specs.declared.Tables.the-variants.{One}
 use Rattle.rows.specs.Rows.{rowOf}
-use Rattle.density.specs.Density.{meanTo, normal, density}
+use Rattle.density.specs.Density.{meanTo, logNormal, logDensity, density}
 use Rattle.prediction.specs.Prediction.{firstTo, firstPrediction}
 use Rattle.filter.specs.Filter.{weight, total, predictedRow, likelihood, likelihoodCheck, runCheck, answerOf, startShares}
 use Rattle.calls.specs.Calls.{filterCall}
@@ -54,7 +54,7 @@ unfolding admittedCheck boundCheck specCheck seriesCheck readingCheck paramsChec
 admitted = refl
 
 likely : usable (likelihood params series start 0) ≡ true
-unfolding likelihood total weight predictedRow rowOf tab labels number firstPrediction firstTo density normal meanTo usable sumUp lnpdfOf rootOf rootPattern wholeRoot cut inUnits logOf logPoly logClose logMid logOut logFar logNormal expOf expPoly expZero expPart expScale signed expWhole expFar expNear expReduce expLarge ofBits toBits add sub mul div neg lt eq toUnsigned ofInt size
+unfolding likelihood total weight predictedRow rowOf tab labels number firstPrediction firstTo density logDensity logNormal meanTo usable sumUp lnpdfOf rootOf rootPattern wholeRoot cut inUnits logOf logPoly logClose logMid logOut logFar logNormal expOf expPoly expZero expPart expScale signed expWhole expFar expNear expReduce expLarge ofBits toBits add sub mul div neg lt eq toUnsigned ofInt size
 likely = refl
 
 -- the shares are P4's

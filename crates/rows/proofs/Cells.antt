@@ -1,14 +1,15 @@
 -- Arrays of sums over places: cell c of an array sums f c over the places before e at which the test t c holds. None so far, and one place more.
 -- Assumes nothing.
 use Prim.Native.Nat.{ℕ, _+_, _<_, _≤_}
-use mathlib.Core.Path.{_≡_, refl, _∙_}
+use mathlib.Core.Path.{_≡_, refl, sym, _∙_}
 use mathlib.Core.Logic.{_≢_}
-use mathlib.Core.Bool.{Bool, true, false}
+use mathlib.Core.Bool.{Bool, true, false, _&&_}
 use mathlib.Core.List.{List}
 use native.Mathlib.Omega.{arith}
+use borrow.Author.Tests.{eq-eqb, ne-eqb}
 use lib.ListN.{length, set, replicate, length-replicate, getD-replicate}
 use lib.Ieee.{Float, nan}
-use Rattle.number.specs.Number.{if_then_else_, _⊕_, zero⁺}
+use Rattle.number.specs.Number.{if_then_else_, _=?_, _⊕_, zero⁺}
 use Rattle.number.specs.Table.{_!_, fillAt}
 use Rattle.number.proofs.Sums.{where-none, where-more, where-same}
 use Rattle.number.proofs.Table.{fill-is, fill-set, fill-at, fill-long, fillAt-ext, fillAt-past}
@@ -42,6 +43,13 @@ module _ (t : ℕ → ℕ → Bool) (f : ℕ → ℕ → Float) where
         → set acc c (acc ! c ⊕ v) ≡ fillAt 0 (cellAt t f (e + 1)) N l
     cells-one h c b holds others w =
         fill-set _ _ N l d c b h (cell-adds e c (fill-at _ N l d c b) holds w) (λ c′ b′ z. cell-keeps e c′ refl (others c′ b′ z))
+
+    -- for cell b where u says so, and else for none
+    pub cells-if : N ≤ length l → (u : Bool) (b : ℕ) → b < N → ((c : ℕ) → t c e ≡ (u && b =? c)) → {v : Float} → v ≡ f b e
+        → {acc′ : List Float} → acc′ ≡ (if u then set acc b (acc ! b ⊕ v) else acc) → acc′ ≡ fillAt 0 (cellAt t f (e + 1)) N l
+    cells-if h true b hb tests w e′ =
+        e′ ∙ cells-one h b hb (tests b ∙ eq-eqb b b refl) (λ c _ n. tests c ∙ ne-eqb b c (λ z. n (sym z))) w
+    cells-if h false b hb tests w e′ = e′ ∙ cells-skip (λ c _. tests c)
 
     -- for some: each cell is written anew
     pub cells-more : {acc′ : List Float} → N ≤ length l → acc′ ≡ fillAt 0 (λ c. if t c e then (acc ! c ⊕ f c e) else (acc ! c)) N acc

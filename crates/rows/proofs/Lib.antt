@@ -8,3 +8,5 @@ pub mod Rows
 pub mod SmoothedTable
 -- arrays of sums over places, one place more
 pub mod Cells
+-- the rows in work memory by place
+pub mod ByPlace

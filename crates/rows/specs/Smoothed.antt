@@ -3,6 +3,7 @@
 use Prim.Native.Nat.{ℕ, suc, _-_, _*_, _/_, _%_, _^_}
 use mathlib.Core.Bool.{Bool}
 use mathlib.Core.List.{List}
+use lib.ListN.{drop}
 use lib.Ieee.{Float, ne}
 use Rattle.number.specs.Number.{_⊖_, _⊘_, zero⁺}
 use Rattle.number.specs.Table.{_!_}
@@ -12,6 +13,11 @@ use Rattle.window.specs.declared.Time.{Time}
 use Rattle.params.specs.declared.MsarParams.{MsarParams}
 use Rattle.params.specs.Parameters.{k, p, μ, variance}
 use Rattle.rows.specs.Rows.{windowsOf}
+use Rattle.rows.specs.Memory.{filteredFrom}
+
+-- the smoothed rows that stand in work memory
+abbrev pub rowsIn : MsarParams → List Float → ℕ → List Float
+rowsIn q work i = drop (filteredFrom (windowsOf q) i) work
 
 -- n rows of m windows
 abbrev pub places : MsarParams → ℕ → ℕ

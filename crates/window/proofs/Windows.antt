@@ -1,5 +1,5 @@
 -- Windows as lists of labels and windows as numbers are the same, and the arithmetic on numbers is the one on lists. Assumes nothing.
-use Prim.Native.Nat.{ℕ, zero, suc, _+_, _*_, _/_, _%_, _^_, _<_}
+use Prim.Native.Nat.{ℕ, zero, suc, _+_, _*_, _/_, _%_, _^_, _<_, _≤_}
 use mathlib.Core.Path.{_≡_, refl, sym, ap, _∙_}
 use mathlib.Core.List.{List, [], _∷_}
 use native.Mathlib.Nat.{zero-div, zero-mod, pow-suc, pow-succ', pow-zero, div-one, mod-one, mod-lt, mod-eq-of-lt, one-le-pow, div-lt-iff-lt-mul, div-div-eq-div-mul, le-of-suc-le-suc, not-suc-le-zero}
@@ -71,6 +71,16 @@ module _ (k : ℕ) (pos : 0 < k) where
   number-labels-cut zero a = rw (pow-zero, mod-one)
   number-labels-cut (suc n) a =
       rw (number-labels-cut n (a / k), pow-suc) (omega (arith, mod-mul a (pow-pos n) pos))
+
+  -- and the newest l + 1 labels of a number are those of its rest by k^(l+1)
+  pub label-cut : (n l a j : ℕ) → j ≤ l → label (labels k n (a % k ^ suc l)) j ≡ label (labels k n a) j
+  unfolding labels
+  label-cut zero l a j h = refl
+  label-cut (suc n) l a zero h = rw (pow-suc, mod-mul a (pow-pos l) pos, digits-mod (a / k % k ^ l) (mod-lt a pos))
+  label-cut (suc n) zero a (suc j) h = absurd (not-suc-le-zero h)
+  label-cut (suc n) (suc l) a (suc j) h =
+      let cut : a % k ^ suc (suc l) ≡ a / k % k ^ suc l * k + a % k = rw pow-suc (mod-mul a (pow-pos (suc l)) pos) in
+      rw (cut, digits-div (a / k % k ^ suc l) (mod-lt a pos)) (label-cut n l (a / k) j (le-of-suc-le-suc h))
 
   pub number-labels : (n a : ℕ) → a < k ^ n → number k (labels k n a) ≡ a
   number-labels n a h = number-labels-cut n a ∙ mod-eq-of-lt h

@@ -1,3 +1,4 @@
+-- One lag more, block by block from the last.
 use Prim.Native.Nat.{suc, _+_, _*_, _-_, _<_, _≤_}
 use mathlib.Core.Path.{_≡_, _∙_}
 use native.Mathlib.Omega.{arith}

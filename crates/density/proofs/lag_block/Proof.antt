@@ -1,3 +1,4 @@
+-- One block of a lag, window by window.
 use Prim.Native.Nat.{_+_, _-_, _%_, _<_, _≤_}
 use mathlib.Core.Path.{_≡_, sym}
 use native.Mathlib.Nat.{zero-mod, mod-lt}

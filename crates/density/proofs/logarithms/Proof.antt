@@ -1,3 +1,4 @@
+-- The logarithms of the deviations, again and again.
 use Prim.Native.Nat.{_-_, _≤_}
 use mathlib.Core.Path.{_≡_}
 use native.Mathlib.Omega.{arith}

@@ -1,3 +1,4 @@
+-- Prediction × density window by window, and their sum.
 use Prim.Native.Nat.{_-_, _≤_}
 use mathlib.Core.Path.{_≡_}
 use native.Mathlib.Omega.{arith}

@@ -1,3 +1,4 @@
+-- A row of a table, place by place.
 use Rattle.em_coefficients.proofs.Parts.{place-still}
 use Rattle.number.proofs.Table.{fillAt-none, fillAt-more}
 use Rattle.number.specs.Table.{_!_, fillAt}
@@ -8,8 +9,6 @@ use native.Mathlib.Omega.{arith}
 use borrow.Author.Needs.{needs}
 use Rattle.em_coefficients.proofs.add_products.Statement.{statement}
 use Rattle.em_coefficients.proofs.add_products.Tie as tie
-use Rattle.em_coefficients.proofs.add_products.Reads as reads
-use Rattle.em_coefficients.proofs.add_products.Lts as lts
 
 abbrev Inv-loop : tie.InvT-loop
 Inv-loop tables₀ at order f x c₀ tables c = (c ≤ order) × (tables ≡ fillAt at (λ c. tables₀ ! (at + c) ⊕ f ⊗ x ! (c + 1)) c tables₀)

@@ -1,3 +1,4 @@
+-- A window is added to its block's table and side, row by row.
 use Rattle.em_coefficients.proofs.Parts.{side-fits, table-fits, row-fits, tableTo, table-none, table-more, table-long, table-all, sideTo, side-more, side-all}
 use Rattle.number.proofs.Table.{fillAt-none}
 use Prim.Native.Nat.{_+_, _*_, _-_, _≤_}
@@ -6,9 +7,6 @@ use native.Mathlib.Omega.{arith}
 use borrow.Author.Needs.{needs}
 use Rattle.em_coefficients.proofs.add_window.Statement.{statement}
 use Rattle.em_coefficients.proofs.add_window.Tie as tie
-use Rattle.em_coefficients.proofs.add_window.Reads as reads
-use Rattle.em_coefficients.proofs.add_window.Lts as lts
-use Rattle.em_coefficients.proofs.add_products.Reads as add-products-reads
 
 abbrev Inv-loop : tie.InvT-loop
 Inv-loop tables₀ sides₀ b order w x table side l₀ tables sides l = (l ≤ order) × (tables ≡ tableTo b order w x tables₀ l) × (sides ≡ sideTo b order w x sides₀ l)

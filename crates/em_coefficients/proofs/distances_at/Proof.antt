@@ -1,3 +1,4 @@
+-- The distances by lag and label, place by place.
 use Rattle.em_coefficients.proofs.Parts.{distances-fit}
 use Rattle.em_coefficients.specs.Steps.{distanceBy}
 use Rattle.number.proofs.Table.{fillAt-none, fill-more}
@@ -10,8 +11,6 @@ use native.Mathlib.Omega.{arith}
 use borrow.Author.Needs.{needs}
 use Rattle.em_coefficients.proofs.distances_at.Statement.{statement}
 use Rattle.em_coefficients.proofs.distances_at.Tie as tie
-use Rattle.em_coefficients.proofs.distances_at.Reads as reads
-use Rattle.em_coefficients.proofs.distances_at.Lts as lts
 
 abbrev Inv-loop : tie.InvT-loop
 Inv-loop y means k order distances₀ at end e₀ distances e = (e ≤ (order + 1) * k) × (distances ≡ fillAt 0 (distanceBy k y (record { 0 = at }) means) e distances₀)

@@ -1,3 +1,4 @@
+-- The distances of a window, label by label.
 use Rattle.em_coefficients.proofs.Parts.{distance-within, rest-first, rest-next, distance-read}
 use Rattle.em_coefficients.specs.Steps.{distanceOf}
 use Rattle.number.proofs.Table.{fillAt-none, fill-more}
@@ -9,8 +10,6 @@ use native.Mathlib.Omega.{arith}
 use borrow.Author.Needs.{needs}
 use Rattle.em_coefficients.proofs.distances_of.Statement.{statement}
 use Rattle.em_coefficients.proofs.distances_of.Tie as tie
-use Rattle.em_coefficients.proofs.distances_of.Reads as reads
-use Rattle.em_coefficients.proofs.distances_of.Lts as lts
 
 abbrev Inv-loop : tie.InvT-loop
 Inv-loop distances a k order x₀ rest₀ l₀ l-end x rest l = (l ≤ order + 1) × (rest ≡ a / k ^ l) × (x ≡ fillAt 0 (distanceOf k order distances a) l x₀)

@@ -1,3 +1,4 @@
+-- A block's part, place by place.
 use Rattle.number.proofs.Table.{fillAt-none, fill-more}
 use Rattle.number.specs.Table.{_!_, fillAt}
 use Rattle.number.specs.Number.{zero⁺}
@@ -8,8 +9,6 @@ use borrow.Author.Needs.{needs}
 use lib.ListN.{replicate}
 use Rattle.em_coefficients.proofs.part_at.Statement.{statement}
 use Rattle.em_coefficients.proofs.part_at.Tie as tie
-use Rattle.em_coefficients.proofs.part_at.Reads as reads
-use Rattle.em_coefficients.proofs.part_at.Lts as lts
 
 abbrev Inv-loop : tie.InvT-loop
 Inv-loop parts at n part₀ e₀ part e = (e ≤ n) × (part ≡ fillAt 0 (λ i. parts ! (at + i)) e (replicate 16 zero⁺))

@@ -1,3 +1,4 @@
+-- A block's coefficients to their places, one by one.
 use Rattle.number.proofs.Table.{fillAt-none, fillAt-more}
 use Rattle.number.specs.Table.{_!_, fillAt}
 use Prim.Native.Nat.{_-_, _≤_}
@@ -6,8 +7,6 @@ use native.Mathlib.Omega.{arith}
 use borrow.Author.Needs.{needs}
 use Rattle.em_coefficients.proofs.put.Statement.{statement}
 use Rattle.em_coefficients.proofs.put.Tie as tie
-use Rattle.em_coefficients.proofs.put.Reads as reads
-use Rattle.em_coefficients.proofs.put.Lts as lts
 
 abbrev Inv-loop : tie.InvT-loop
 Inv-loop ar₀ at n values l₀ ar l = (l ≤ n) × (ar ≡ fillAt at (λ i. values ! i) l ar₀)

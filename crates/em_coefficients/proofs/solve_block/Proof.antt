@@ -1,14 +1,10 @@
+-- A block is solved from its parts of the arrays.
 use Rattle.em_coefficients.proofs.Parts.{side-fits, table-fits, table-small}
 use Rattle.em_coefficients.specs.Steps.{blockFrom}
 use native.Mathlib.Omega.{arith}
 use borrow.Author.Needs.{needs}
 use Rattle.em_coefficients.proofs.solve_block.Statement.{statement}
 use Rattle.em_coefficients.proofs.solve_block.Tie as tie
-use Rattle.em_coefficients.proofs.solve_block.Reads as reads
-use Rattle.em_coefficients.proofs.solve_block.Lts as lts
-use Rattle.em_coefficients.proofs.part_at.Reads as part-at-reads
-use Rattle.em_coefficients.proofs.table_at.Reads as table-at-reads
-use Rattle.em_ridge.proofs.solve_or_keep.Reads as solve-or-keep-reads
 
 mul-table-at : tie.Need-mul-table-at
 mul-table-at c = omega (arith, table-small (c .pre .1))

@@ -1,61 +1,73 @@
-use Rattle.em_coefficients.proofs.Parts.{side-fits, answersTo, answers-none, answers-more, answers-refused, answers-all}
-use Rattle.em_coefficients.specs.Steps.{blockFrom}
-use Rattle.refusal.proofs.Each.{each-none, each-more}
-use Rattle.refusal.specs.declared.Check.the-variants.{Passed}
-use Rattle.refusal.specs.Checks.{each}
-use Rattle.number.proofs.Table.{fill-long}
+-- The blocks are solved in order, up to the first that is refused.
 use Prim.Native.Nat.{_+_, _*_, _-_, _<_, _≤_}
 use mathlib.Core.Path.{_≡_, _∙_}
 use native.Mathlib.Omega.{arith}
 use borrow.Author.Needs.{needs}
 use lib.ListN.{length}
+use Rattle.number.proofs.Table.{fill-long}
+use Rattle.refusal.specs.Checks.{each}
+use Rattle.refusal.specs.declared.Check.the-variants.{Passed}
+use Rattle.refusal.proofs.Each.{each-none, each-more}
+use Rattle.em_coefficients.specs.Steps.{blockFrom}
+use Rattle.em_coefficients.proofs.Parts.{side-fits, answersTo, answers-none, answers-more, answers-refused, answers-all}
 use Rattle.em_coefficients.proofs.solve_blocks.Statement.{statement}
 use Rattle.em_coefficients.proofs.solve_blocks.Tie as tie
-use Rattle.em_coefficients.proofs.solve_blocks.Reads as reads
-use Rattle.em_coefficients.proofs.solve_blocks.Lts as lts
-use Rattle.em_coefficients.proofs.put.Reads as put-reads
-use Rattle.em_coefficients.proofs.solve_block.Reads as solve-block-reads
 
 abbrev Inv-loop : tie.InvT-loop
-Inv-loop order tables sides blocks old ar₀ b₀ ar b = (b ≤ blocks) × (each b (λ i. blockFrom order tables sides old i .check) ≡ Passed) × (ar ≡ answersTo order (blockFrom order tables sides old) old b)
+Inv-loop order tables sides old blocks ar₀ b₀ ar b =
+    (b ≤ blocks) × (length old ≡ 112) × (each b (λ i. blockFrom order tables sides old i .check) ≡ Passed) × (ar ≡ answersTo order (blockFrom order tables sides old) old b)
 
 abbrev μ-loop : tie.MeasureT-loop
-μ-loop order tables sides blocks old ar₀ b₀ ar b = blocks - b
+μ-loop order tables sides old blocks ar₀ b₀ ar b = blocks - b
+
+-- from the loop back to the call
+abbrev start : tie.At-loop Inv-loop μ-loop → tie.Start Inv-loop μ-loop
+start c = c .before .before
 
 -- block b lies within the array
-inside : (c : tie.In-loop Inv-loop μ-loop) → c .before .loop .b * c .before .before .args .order + c .before .before .args .order ≤ 112
-inside c = let h : c .before .loop .b < 16 = omega arith in side-fits h (c .before .before .pre .1)
+inside : (c : tie.In-loop Inv-loop μ-loop) → c .before .loop .b * start (c .before) .args .order + start (c .before) .args .order ≤ 112
+inside c = let h : c .before .loop .b < 16 = omega arith in side-fits h (start (c .before) .pre .1)
 
 loop-holds : tie.Need-loop-holds Inv-loop μ-loop
-loop-holds c = let at = c in (omega arith, each-none _, answers-none (at .args .order) (blockFrom (at .args .order) (at .args .tables .now) (at .args .sides .now) (at .args .t4)) (at .args .t4))
+loop-holds c =
+    let a = c .before .args in
+    (omega arith, c .before .pre .3, each-none _, answers-none (a .order) (blockFrom (a .order) (a .tables .now) (a .sides .now) (a .old .now)) (a .old .now))
 
 returns : tie.Need-returns Inv-loop μ-loop
-returns c = let at = c .before .before .before .before .before .before .before in answers-refused (at .args .order) (blockFrom (at .args .order) (at .args .tables .now) (at .args .sides .now) (at .args .t4)) (at .args .t4) _ _ (c .before .before .before .before .before .before .loop .inv .1) (c .before .before .before .before .before .loop-test .taken) (c .before .before .before .solve-block .ensures) (c .before .check .given .1)
+returns c =
+    let at = c .before .before .before .before .before in
+    let a = start at .args in
+    let block = blockFrom (a .order) (a .tables .now) (a .sides .now) (a .old .now) in
+    answers-refused (a .order) block (a .old .now) _ _ (at .loop .inv .2) (c .before .before .before .before .loop-test .taken) (c .before .before .before .solve-block .ensures) (c .before .check .given .1)
 
 mul-put : tie.Need-mul-put Inv-loop μ-loop
-mul-put c = omega (arith, inside (c .before .before .before .before .before .before))
+mul-put c = omega (arith, inside (c .before .before .before .before .before))
 
 put-requires : tie.Need-put-requires Inv-loop μ-loop
 put-requires c κs =
-    let old : length (c .before .before .before .before .before .before .before .before .args .t4) ≡ 112 = search needs in
-    (inside (c .before .before .before .before .before .before), omega arith, fill-long _ _ _ (c .before .before .before .before .before .before .before .loop .inv .2) (omega (arith, inside (c .before .before .before .before .before .before), old)) ∙ old)
+    let old = c .before .before .before .before .before .before .loop .inv .1 in
+    (inside (c .before .before .before .before .before), omega arith, fill-long _ _ _ (c .before .before .before .before .before .before .loop .inv .3) (omega (arith, inside (c .before .before .before .before .before), old)) ∙ old)
 
 loop-again : tie.Need-loop-again Inv-loop μ-loop
 loop-again c =
-    let old : length (c .before .before .before .before .before .before .before .before .before .args .t4) ≡ 112 = search needs in
-    let inv = c .before .before .before .before .before .before .before .before .loop .inv in
-    let at = c .before .before .before .before .before .before .before .before .before in
-    let solved = c .before .before .before .before .before .solve-block .ensures in (
+    let at = c .before .before .before .before .before .before .before in
+    let a = start at .args in
+    let block = blockFrom (a .order) (a .tables .now) (a .sides .now) (a .old .now) in
+    let solved = c .before .before .before .before .before .solve-block .ensures in
+    let room : at .loop .b * a .order + a .order ≤ length (a .old .now) = omega (arith, inside (c .before .before .before .before .before .before), at .loop .inv .1) in (
       omega arith,
-      each-more _ _ (inv .1) (rw solved at (c .before .before .before .enum-told .given .1)),
-      answers-more (at .args .order) (blockFrom (at .args .order) (at .args .tables .now) (at .args .sides .now) (at .args .t4)) (at .args .t4) _ solved (inv .2) (omega (arith, inside (c .before .before .before .before .before .before .before), old)) (c .put .ensures),
+      at .loop .inv .1,
+      each-more _ _ (at .loop .inv .2) (rw solved at (c .before .before .before .enum-told .given .1)),
+      answers-more (a .order) block (a .old .now) _ solved (at .loop .inv .3) room (c .put .ensures),
     )
 
 returns-2 : tie.Need-returns-2 Inv-loop μ-loop
 returns-2 c =
-    let e : c .before .loop .b ≡ c .before .before .args .blocks = omega arith in
-    let at = c .before .before in
-    answers-all (at .args .order) (blockFrom (at .args .order) (at .args .tables .now) (at .args .sides .now) (at .args .t4)) (at .args .t4) _ (rw e at (c .before .loop .inv .1)) (rw e at (c .before .loop .inv .2))
+    let at = c .before in
+    let a = start at .args in
+    let e : at .loop .b ≡ a .blocks = omega arith in
+    let block = blockFrom (a .order) (a .tables .now) (a .sides .now) (a .old .now) in
+    answers-all (a .order) block (a .old .now) _ (rw e at (at .loop .inv .2)) (rw e at (at .loop .inv .3))
 
 pub solve-blocks-spec : {M : Type 1} → statement M
 solve-blocks-spec =

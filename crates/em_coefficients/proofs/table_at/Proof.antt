@@ -1,3 +1,4 @@
+-- A block's table, place by place.
 use Rattle.number.proofs.Table.{fillAt-none, fill-more}
 use Rattle.number.specs.Table.{_!_, fillAt}
 use Rattle.number.specs.Number.{zero⁺}
@@ -8,8 +9,6 @@ use borrow.Author.Needs.{needs}
 use lib.ListN.{replicate}
 use Rattle.em_coefficients.proofs.table_at.Statement.{statement}
 use Rattle.em_coefficients.proofs.table_at.Tie as tie
-use Rattle.em_coefficients.proofs.table_at.Reads as reads
-use Rattle.em_coefficients.proofs.table_at.Lts as lts
 
 abbrev Inv-loop : tie.InvT-loop
 Inv-loop tables at n table₀ e₀ table e = (e ≤ n) × (table ≡ fillAt 0 (λ i. tables ! (at + i)) e (replicate 256 zero⁺))

@@ -1,5 +1,5 @@
 -- All blocks are counted, one after another.
-use Prim.Native.Nat.{_+_, _*_, _-_, _%_, _<_, _≤_}
+use Prim.Native.Nat.{_*_, _-_, _%_, _<_, _≤_}
 use mathlib.Core.Path.{_≡_, sym}
 use native.Mathlib.Numerals.{add-one}
 use native.Mathlib.Nat.{zero-mod, zero-mul, mod-lt, suc-mul}

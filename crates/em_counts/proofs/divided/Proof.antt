@@ -1,3 +1,4 @@
+-- A cell over its column, or the old one.
 use borrow.Author.Needs.{needs}
 use Rattle.em_counts.proofs.Dividing.{kept, quotient}
 use Rattle.em_counts.proofs.divided.Statement.{statement}

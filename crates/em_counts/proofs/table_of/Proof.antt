@@ -1,3 +1,4 @@
+-- The cells of the new table, one after another.
 use Prim.Native.Nat.{_*_, _-_, _%_, _<_, _≤_}
 use mathlib.Core.Path.{_≡_, refl, sym}
 use native.Mathlib.Nat.{zero-mod, mod-lt}
@@ -8,8 +9,6 @@ use Rattle.em_counts.specs.Steps.{dividedAt}
 use Rattle.number.proofs.Table.{fillAt-none, fill-more}
 use Rattle.number.specs.Table.{fillAt}
 use Rattle.number.specs.Number.{zero⁺}
-use Rattle.em_counts.proofs.divided.Reads as divided-reads
-use Rattle.window.proofs.next_label.Reads as next-label-reads
 use Rattle.em_counts.proofs.table_of.Statement.{statement}
 use Rattle.em_counts.proofs.table_of.Tie as tie
 

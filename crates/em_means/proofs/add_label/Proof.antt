@@ -1,3 +1,4 @@
+-- A label of a window is added, or skipped.
 use Prim.Native.Nat.{_+_, _*_, _-_, _≤_}
 use native.Mathlib.Omega.{arith}
 use borrow.Author.Needs.{needs}

@@ -1,3 +1,4 @@
+-- A window is added label by label.
 use Prim.Native.Nat.{_*_, _-_, _≤_}
 use mathlib.Core.Path.{_≡_, _∙_}
 use native.Mathlib.Nat.{zero-mul}

@@ -1,3 +1,4 @@
+-- A window is added to the equations, or skipped.
 use Prim.Native.Nat.{_-_}
 use mathlib.Core.Path.{refl}
 use native.Mathlib.Nat.{mul-le-mul}

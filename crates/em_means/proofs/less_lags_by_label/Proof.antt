@@ -1,3 +1,4 @@
+-- Readings less their lags, label by label.
 use Prim.Native.Nat.{_-_, _≤_}
 use mathlib.Core.Path.{_≡_}
 use native.Mathlib.Omega.{arith}

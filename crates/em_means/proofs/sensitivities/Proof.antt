@@ -1,3 +1,4 @@
+-- The sensitivities of a window, lag by lag.
 use Prim.Native.Nat.{ℕ, suc, _+_, _*_, _-_, _/_, _^_, _<_, _≤_}
 use mathlib.Core.Path.{_≡_, subst}
 use native.Mathlib.Nat.{mod-lt, div-mul-le-self}

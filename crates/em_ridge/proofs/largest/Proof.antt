@@ -1,3 +1,4 @@
+-- The largest place of the diagonal, row by row.
 use Prim.Native.Nat.{_+_, _*_, _-_, _<_, _≤_}
 use mathlib.Core.Path.{_≡_}
 use native.Mathlib.Omega.{arith}
@@ -5,7 +6,6 @@ use borrow.Author.Needs.{needs}
 use Rattle.em_ridge.proofs.Diagonal.{largest-none, largest-more}
 use Rattle.em_ridge.specs.Ridge.{largestTo}
 use Rattle.number.proofs.Table.{cell-below}
-use Rattle.number.proofs.max.Reads as max-reads
 use Rattle.em_ridge.proofs.largest.Statement.{statement}
 use Rattle.em_ridge.proofs.largest.Tie as tie
 

@@ -1,11 +1,7 @@
+-- The equations are solved with the ridge, or the incumbent stays.
 use borrow.Author.Tests.{not-true, not-false}
 use borrow.Author.Needs.{needs}
 use Rattle.em_ridge.proofs.Answers.{kept-is, solved-is}
-use Rattle.linsolve.proofs.solve.Reads as solve-reads
-use Rattle.number.proofs.is_usable.Reads as is-usable-reads
-use Rattle.em_ridge.proofs.add_ridge.Reads as add-ridge-reads
-use Rattle.em_ridge.proofs.largest.Reads as largest-reads
-use Rattle.em_ridge.proofs.update_by.Reads as update-by-reads
 use Rattle.em_ridge.proofs.solve_or_keep.Statement.{statement}
 use Rattle.em_ridge.proofs.solve_or_keep.Tie as tie
 

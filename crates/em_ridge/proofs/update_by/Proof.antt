@@ -1,5 +1,5 @@
+-- The solver's answer as an update.
 use borrow.Author.Needs.{needs}
-use Rattle.em_ridge.proofs.refused.Reads as refused-reads
 use Rattle.em_ridge.proofs.update_by.Statement.{statement}
 use Rattle.em_ridge.proofs.update_by.Tie as tie
 

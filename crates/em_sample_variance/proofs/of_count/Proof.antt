@@ -1,3 +1,4 @@
+-- The count of readings as a number.
 use Prim.Native.Nat.{_^_, _<_}
 use mathlib.Core.Path.{ap}
 use native.Mathlib.Omega.{arith}

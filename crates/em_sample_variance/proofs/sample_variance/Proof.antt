@@ -1,8 +1,6 @@
+-- Mean and squares make the sample variance.
 use borrow.Author.Needs.{needs}
 use Rattle.em_sample_variance.specs.Series.{sampleVariance, sampleMean}
-use Rattle.em_sample_variance.proofs.of_count.Reads as of-count-reads
-use Rattle.em_sample_variance.proofs.sum.Reads as sum-reads
-use Rattle.em_sample_variance.proofs.sum_of_squares.Reads as sum-of-squares-reads
 use Rattle.em_sample_variance.proofs.sample_variance.Statement.{statement}
 use Rattle.em_sample_variance.proofs.sample_variance.Tie as tie
 

@@ -1,3 +1,4 @@
+-- The squares about the mean, summed reading by reading.
 use Prim.Native.Nat.{_-_, _≤_}
 use mathlib.Core.Path.{_≡_, refl}
 use native.Mathlib.Omega.{arith}

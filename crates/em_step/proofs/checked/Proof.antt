@@ -1,15 +1,14 @@
+-- New parameters with their checks.
 use Rattle.em_step.proofs.Ways.{checks-refused, checks-passed}
-use Prim.Native.Nat.{_-_, _/_}
+use Prim.Native.Nat.{_-_}
 use mathlib.Core.Path.{refl}
 use borrow.Author.Needs.{needs}
 use Rattle.em_step.proofs.checked.Statement.{statement}
 use Rattle.em_step.proofs.checked.Tie as tie
 
--- src/lib.rt:98:1
 returns : tie.Need-returns
 returns c = checks-refused (c .before .before .before .before .before .args .next) (c .before .before .before .before .check .ensures) (c .before .before .own .given .1) (c .refused .ensures)
 
--- src/lib.rt:98:1
 returns-2 : tie.Need-returns-2
 returns-2 c = checks-passed (c .before .before .before .args .next) (c .before .before .check .ensures) (c .enum-told .given .1) refl
 

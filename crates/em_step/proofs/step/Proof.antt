@@ -1,37 +1,46 @@
-use Rattle.em_step.proofs.Kept.{once-alike, still-ready}
-use Rattle.em_step.proofs.Ways.{first-refused, second-refused, stepped}
-use Prim.Native.Nat.{_-_, _/_}
+-- The step: twice improved, counted, checked; or refused on the way.
+use mathlib.Core.Path.{_∙_}
 use native.Mathlib.Omega.{arith}
 use borrow.Author.Needs.{needs}
+use Rattle.em_counts.proofs.Dividing.{transition-is}
+use Rattle.em_step.proofs.Kept.{once-alike, still-ready, ready-power, ready-places}
+use Rattle.em_step.proofs.Ways.{first-refused, second-refused, stepped}
 use Rattle.em_step.proofs.step.Statement.{statement}
 use Rattle.em_step.proofs.step.Tie as tie
 
--- src/lib.rt:69:9
+-- from the first result back to the call, and from the second to the first
+abbrev start : tie.After-improve → tie.Start
+start c = c .before .before .before
+
+abbrev first : tie.After-improve2 → tie.After-improve
+first c = c .before .before .before .before .before .before
+
 improve-requires : tie.Need-improve-requires
 improve-requires c κs = c .before .before .pre
 
--- src/lib.rt:72:9
 returns : tie.Need-returns
-returns c = first-refused _ _ _ (c .before .before .before .before .before .before .before .args .q) (c .before .before .before .before .improve .ensures) (c .before .before .check .given .1) (c .refused .ensures)
+returns c = let at = c .before .before .before .before in first-refused _ _ _ (start at .args .t1) (at .improve .ensures) (c .before .before .check .given .1) (c .refused .ensures)
 
-enum-told : tie.Need-enum-told
-enum-told c = search needs
-
--- src/lib.rt:81:9
 improve-requires-2 : tie.Need-improve-requires-2
-improve-requires-2 c κs = still-ready (once-alike (c .before .before .before .before .before .before .before .before .args .q) (c .before .before .before .before .before .improve .result)) (c .before .before .before .before .before .before .before .before .pre)
+improve-requires-2 c κs = let at = c .before .before .before .before .before in still-ready (once-alike (start at .args .t1) (at .improve .result)) (start at .pre)
 
--- src/lib.rt:84:9
 returns-2 : tie.Need-returns-2
-returns-2 c = second-refused _ _ _ (c .before .before .before .before .before .before .before .before .before .before .before .before .before .args .q) (c .before .before .before .before .before .before .before .before .before .before .improve .ensures) (c .before .before .before .before .before .before .before .before .enum-told .given .1) (c .before .before .before .before .improve2 .ensures) (c .before .before .check2 .given .1) (c .refused2 .ensures)
+returns-2 c =
+    let at = c .before .before .before .before in
+    second-refused _ _ _ (start (first at) .args .t1) (first at .improve .ensures) (at .before .before .before .before .enum-told .given .1) (at .improve2 .ensures) (c .before .before .check2 .given .1) (c .refused2 .ensures)
 
--- src/lib.rt:92:9
 new-transition-requires : tie.Need-new-transition-requires
-new-transition-requires c κs = let r = c .before .before .before .before .before .before .before .before .before .before .before .before .before .before .pre in (r .shape, (r .lagged, r .power-is, omega (arith, r .rows-are, r .short), r .fits))
+new-transition-requires c κs =
+    let r = start (first (c .before .before .before .before .before .before .before)) .pre in
+    (r .shape .high, omega (arith, r .shape .low), ready-power r, omega (arith, r .rows-are, r .short), ready-places r)
 
--- src/lib.rt:65:1
 returns-3 : tie.Need-returns-3
-returns-3 c = stepped _ _ _ (c .before .before .before .before .before .before .before .before .before .before .before .before .before .before .before .before .args .q) (c .before .before .before .before .before .before .before .before .before .before .before .before .before .improve .ensures) (c .before .before .before .before .before .before .before .before .before .before .before .enum-told .given .1) (c .before .before .before .before .before .before .before .improve2 .ensures) (c .before .before .before .before .before .enum-told2 .given .1) (c .before .new-transition .ensures) (c .checked .ensures)
+returns-3 c =
+    let at = c .before .before .before .before .before .before .before .before .before in
+    let s = start (first at) in
+    let q = s .args .t1 in
+    let counted = c .before .new-transition .ensures ∙ transition-is q (omega (arith, s .pre .shape .low)) (s .pre .lagged) (s .args .n) (s .args .work .now) (s .pre .power-is) in
+    stepped _ _ _ q (first at .improve .ensures) (at .before .before .before .before .enum-told .given .1) (at .improve2 .ensures) (c .before .before .before .before .before .before .before .enum-told2 .given .1) counted (c .checked .ensures)
 
 pub step-spec : {M : Type 1} → statement M
 step-spec =
@@ -41,7 +50,7 @@ step-spec =
     (λ c. search needs)
     (λ c κs. search needs)
     returns
-    enum-told
+    (λ c. search needs)
     improve-requires-2
     (λ c. search needs)
     (λ c κs. search needs)

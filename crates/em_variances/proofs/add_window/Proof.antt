@@ -1,9 +1,8 @@
+-- A window is added to its block's sums, or skipped.
 use Prim.Native.Nat.{_-_}
 use borrow.Author.Needs.{needs}
 use Rattle.em_variances.proofs.add_window.Statement.{statement}
 use Rattle.em_variances.proofs.add_window.Tie as tie
-use Rattle.em_variances.proofs.add_window.Reads as reads
-use Rattle.em_variances.proofs.add_window.Lts as lts
 
 returns : tie.Need-returns
 returns c = (rw (c .before .before .if1 .taken), rw (c .before .before .if1 .taken))

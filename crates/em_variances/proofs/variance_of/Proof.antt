@@ -1,11 +1,9 @@
+-- A variance of its sums, or the old one.
 use Rattle.em_variances.specs.Steps.{varianceOf}
 use Prim.Native.Nat.{_-_}
 use borrow.Author.Needs.{needs}
 use Rattle.em_variances.proofs.variance_of.Statement.{statement}
 use Rattle.em_variances.proofs.variance_of.Tie as tie
-use Rattle.em_variances.proofs.variance_of.Reads as reads
-use Rattle.em_variances.proofs.variance_of.Lts as lts
-use Rattle.number.proofs.max.Reads as max-reads
 
 returns : tie.Need-returns
 unfolding varianceOf

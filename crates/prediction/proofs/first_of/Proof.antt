@@ -1,3 +1,4 @@
+-- The first prediction of a window, step by step.
 use Prim.Native.Nat.{suc, _+_, _*_, _-_, _<_, _≤_}
 use mathlib.Core.Path.{_≡_}
 use native.Mathlib.Omega.{arith}

@@ -1,3 +1,4 @@
+-- A later prediction, block by block of the windows that share a sum.
 use Prim.Native.Nat.{_+_, _*_, _-_, _≤_}
 use mathlib.Core.Path.{_≡_, refl, _∙_}
 use native.Mathlib.Nat.{zero-mul, mul-comm}

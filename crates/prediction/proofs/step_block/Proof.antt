@@ -1,3 +1,4 @@
+-- The k windows that share a sum, each by its own step.
 use Prim.Native.Nat.{_+_, _-_, _≤_}
 use mathlib.Core.Path.{_≡_, refl}
 use native.Mathlib.Omega.{arith}

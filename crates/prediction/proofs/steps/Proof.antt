@@ -1,3 +1,4 @@
+-- The steps into the windows, window by window.
 use Prim.Native.Nat.{_-_, _≤_}
 use mathlib.Core.Path.{_≡_, refl}
 use native.Mathlib.Omega.{arith}

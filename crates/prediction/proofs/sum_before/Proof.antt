@@ -1,3 +1,4 @@
+-- The sum over the predecessors, oldest label rising.
 use Prim.Native.Nat.{_+_, _*_, _-_, _<_, _≤_}
 use mathlib.Core.Path.{_≡_}
 use native.Mathlib.Omega.{arith}

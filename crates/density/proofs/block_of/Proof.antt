@@ -1,8 +1,7 @@
+-- The block of a label, by its definition.
 use borrow.Author.Tests.{eq-eqb, ne-eqb}
-use Rattle.em_coefficients.proofs.block_of.Statement.{statement}
-use Rattle.em_coefficients.proofs.block_of.Tie as tie
-use Rattle.em_coefficients.proofs.block_of.Reads as reads
-use Rattle.em_coefficients.proofs.block_of.Lts as lts
+use Rattle.density.proofs.block_of.Statement.{statement}
+use Rattle.density.proofs.block_of.Tie as tie
 
 returns : tie.Need-returns
 returns c = rw (eq-eqb _ _ (c .if1 .taken))
