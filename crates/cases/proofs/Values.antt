@@ -12,7 +12,7 @@ use Rattle.number.specs.Number.{_≤?_, _=?_, _⊘_, float, zero⁺, half, one,
 use Rattle.number.specs.Sums.{sumUp}
 use Rattle.number.specs.Table.{_!_, tab, fillAt}
 use Rattle.number.proofs.Table.{fill-at}
-use Rattle.refusal.specs.Checks.{each}
+use Rattle.refusal.specs.Checks.{_before_, each}
 use Rattle.refusal.specs.declared.Check.the-variants.{Passed, Failed}
 use Rattle.refusal.specs.declared.Refusal.the-variants.{Singular, SampleVariance}
 use Rattle.spec.specs.Spec.{specCheck}
@@ -30,8 +30,7 @@ use Rattle.window.specs.Shape.{Shape}
 use Rattle.rows.specs.Steps.{labelSum, labelSumAt}
 use Rattle.prediction.specs.Prediction.{firstTo, firstPrediction}
 use Rattle.prediction.specs.Steps.{firstAt, stepAt, laterAt, sumBefore}
-use Rattle.binding.specs.Binding.{readingCheck, seriesCheck, boundCheck, paramsCheck, admittedCheck}
-use Rattle.binding.specs.declared.Tables.the-variants.{One}
+use Rattle.binding.specs.Binding.{readingCheck, readingsCheck, lengthCheck, boundCheck, memoryCheck, paramsCheck, admittedCheck}
 use Rattle.em_sample_variance.proofs.Examples as variances
 use Rattle.fit.specs.Calls.{fitCheck, fitCall}
 use Rattle.cases.specs.Cases.{same, fails, failsWith, twoRegimes, unitsOf}
@@ -86,8 +85,8 @@ spec = record { «k_regimes» = 2; order = 1; «switching_ar» = false; «switch
 abbrev pub constant : List Float
 constant = two ∷ two ∷ []
 
-admitted : admittedCheck spec constant (twoRegimes 1 quarter quarter most most) 12 (One 2) ≡ Passed
-unfolding admittedCheck boundCheck specCheck seriesCheck readingCheck paramsCheck matchesSpec parameterCheck meanCheck entryCheck columnCheck arCheck varianceCheck columnSum sumUp isProbability usable each magnitudeOf lt le eq ofBits mul div add sub neg sum round size units odd span climb ofFields trailingZeros
+admitted : admittedCheck spec constant (memoryCheck 12 12 before memoryCheck 2 2) (twoRegimes 1 quarter quarter most most) ≡ Passed
+unfolding admittedCheck boundCheck specCheck lengthCheck readingsCheck readingCheck paramsCheck matchesSpec parameterCheck meanCheck entryCheck columnCheck arCheck varianceCheck columnSum sumUp isProbability usable each magnitudeOf lt le eq ofBits mul div add sub neg sum round size units odd span climb ofFields trailingZeros
 admitted = refl
 
 checked : fitCheck (twoRegimes 1 quarter quarter most most) constant ≡ Failed (SampleVariance zero⁺)
@@ -150,7 +149,7 @@ later = record { at-0 = refl; at-1 = refl }
 -- ---- three ones divided by their sum
 
 -- one label of three windows
-pub sum-three : (row : List Float) {work table : List Float} → work ≡ fillAt 3 (λ a. row ! a) 3 (replicate 6 zero⁺) → table ≡ fillAt 0 (labelSumAt 1 3 3 work) 1 (replicate 1 zero⁺)
+pub sum-three : (row : List Float) {work table : List Float} → work ≡ fillAt 0 (λ a. row ! a) 3 (replicate 3 zero⁺) → table ≡ fillAt 0 (labelSumAt 1 3 3 work) 1 (replicate 1 zero⁺)
     → table ! 0 ≡ sumUp (λ a. row ! a) 3
 unfolding labelSumAt labelSum sumUp fillAt tab
 sum-three row g h = rw (h, g)
@@ -159,7 +158,7 @@ abbrev pub ones : List Float
 ones = one ∷ one ∷ one ∷ replicate 253 zero⁺
 
 pub p8 : {total : Float} {row work table : List Float} → total ≡ sumUp (λ a. ones ! a) 3 → row ≡ fillAt 0 (λ a. ones ! a ⊘ total) 3 ones
-    → work ≡ fillAt 3 (λ a. row ! a) 3 (replicate 6 zero⁺) → table ≡ fillAt 0 (labelSumAt 3 1 3 work) 3 (replicate 3 zero⁺)
+    → work ≡ fillAt 0 (λ a. row ! a) 3 (replicate 3 zero⁺) → table ≡ fillAt 0 (labelSumAt 3 1 3 work) 3 (replicate 3 zero⁺)
     → unitsOf (table ! 0) + unitsOf (table ! 1) + unitsOf (table ! 2) ≡ 0x3F_FFFF_FFFF_FFFF
 unfolding unitsOf labelSumAt labelSum sumUp fillAt tab add div ofBits toBits
 p8 e f g h = rw (h, g, f, e)

@@ -237,9 +237,9 @@ fn p7() -> bool
 fn sum_of(row: &[f64; 256]) -> f64
     ensures { λ r. ⌜ r ≡ sumUp (λ a. now (row .entry) ! a) 3 ⌝ }
 {
-    let mut work = [0.0; 6];
+    let mut work = [0.0; 3];
     let mut table = [0.0; 1];
-    number::copy(row, 3, &mut work, 3);
+    number::copy(row, 3, &mut work, 0);
     rows::tabulate(&work, 1, 3, 3, 1, &mut table);
     table[0]
 }
@@ -271,9 +271,9 @@ fn p8() -> bool
     row[2] = 1.0;
     let total = sum_of(&row);
     filter::divide(&mut row, total, 3);
-    let mut work = [0.0; 6];
+    let mut work = [0.0; 3];
     let mut table = [0.0; 3];
-    number::copy(&row, 3, &mut work, 3);
+    number::copy(&row, 3, &mut work, 0);
     rows::tabulate(&work, 3, 1, 3, 1, &mut table);
     let exact = in_units(table[0]) + in_units(table[1]) + in_units(table[2]);
     (exact == 0x3F_FFFF_FFFF_FFFF) & (exact <= ONE + ALLOWED) & (ONE <= exact + ALLOWED)

@@ -7,20 +7,19 @@ use lib.Count.{trailingZeros}
 use lib.Ieee.{Float, add, sub, mul, div, neg, lt, le, eq, sum, round, size, units, odd, span, climb, ofBits, ofFields}
 use Rattle.number.specs.Number.{zero⁺, two, magnitudeOf, usable}
 use Rattle.number.specs.Sums.{sumUp}
-use Rattle.refusal.specs.Checks.{each}
+use Rattle.refusal.specs.Checks.{_before_, each}
 use Rattle.refusal.specs.declared.Check.the-variants.{Passed, Failed}
 use Rattle.refusal.specs.declared.Refusal.the-variants.{SampleVariance}
 use Rattle.spec.specs.Spec.{specCheck}
 use Rattle.params.specs.Parameters.{matchesSpec}
 use Rattle.params.specs.Checks.{isProbability, columnSum, meanCheck, entryCheck, columnCheck, arCheck, varianceCheck, parameterCheck}
-use Rattle.binding.specs.Binding.{readingCheck, seriesCheck, boundCheck, paramsCheck, admittedCheck}
-use Rattle.binding.specs.declared.Tables.the-variants.{One}
+use Rattle.binding.specs.Binding.{readingCheck, readingsCheck, lengthCheck, boundCheck, memoryCheck, paramsCheck, admittedCheck}
 use Rattle.em_sample_variance.proofs.Examples as variances
 use Rattle.fit.specs.Calls.{fitCheck, fitCall}
 use Rattle.promises.specs.Twelve.{alike, orderOne, constantFit, fitRefused}
 
-admitted : admittedCheck orderOne (two ∷ two ∷ []) (alike 1) 12 (One 2) ≡ Passed
-unfolding admittedCheck boundCheck specCheck seriesCheck readingCheck paramsCheck matchesSpec parameterCheck meanCheck entryCheck columnCheck arCheck varianceCheck columnSum sumUp isProbability usable each magnitudeOf lt le eq ofBits mul div add sub neg sum round size units odd span climb ofFields trailingZeros
+admitted : admittedCheck orderOne (two ∷ two ∷ []) (memoryCheck 12 12 before memoryCheck 2 2) (alike 1) ≡ Passed
+unfolding admittedCheck boundCheck specCheck lengthCheck readingsCheck readingCheck paramsCheck matchesSpec parameterCheck meanCheck entryCheck columnCheck arCheck varianceCheck columnSum sumUp isProbability usable each magnitudeOf lt le eq ofBits mul div add sub neg sum round size units odd span climb ofFields trailingZeros
 admitted = refl
 
 -- +0 is not above zero

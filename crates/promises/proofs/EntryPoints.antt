@@ -28,7 +28,8 @@ use Rattle.params.proofs.MsarParams.check as params·check
 use Rattle.params.proofs.MsarParams.expected_durations as params·expected_durations
 use Rattle.stationary.proofs.stationary_shares as stationary·stationary_shares
 use Rattle.binding.proofs.bind as binding·bind
-use Rattle.binding.proofs.admit as binding·admit
+use Rattle.binding.proofs.memory as binding·memory
+use Rattle.binding.proofs.parameters as binding·parameters
 use Rattle.calls.proofs.loglike as calls·loglike
 use Rattle.calls.proofs.filter as calls·filter
 use Rattle.calls.proofs.smooth as calls·smooth
@@ -78,7 +79,8 @@ entry-points M =
       smooth = entry-point (λ κs a r ws e. (ap (λ (x : Outcome). x .answer) e, λ i. (tt, (tt, (tt, (e i .work, (e i .filtered, (e i .smoothed, tt)))))))) calls·smooth.Met.met;
       fit = entry-point (λ κs a r ws e. (ap (λ (x : FitOutcome). x .answer) e, λ i. (tt, (tt, (tt, (tt, (tt, (e i .work, (e i .smoothed, tt))))))))) fit·fit.Met.met;
       bind = entry-point (λ κs a r ws e. (e, refl)) binding·bind.Met.met;
-      admit = entry-point (λ κs a r ws e. (e, refl)) binding·admit.Met.met;
+      memory = entry-point (λ κs a r ws e. (e, refl)) binding·memory.Met.met;
+      parameters = entry-point (λ κs a r ws e. (e, refl)) binding·parameters.Met.met;
       record-new = entry-point (λ κs a r ws e. (λ i. record { check = e .0 i; model = record { series = e .1 i; spec = e .2 i } }, refl)) record·new.Met.met;
       record-loglike = entry-point (λ κs a r ws e. (ap (λ (x : Outcome). x .answer) e, λ i. (tt, (tt, (e i .work, tt))))) record·loglike.Met.met;
       record-filter = entry-point (λ κs a r ws e. (ap (λ (x : Outcome). x .answer) e, λ i. (tt, (tt, (e i .work, (e i .filtered, tt)))))) record·filter.Met.met;

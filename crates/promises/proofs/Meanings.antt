@@ -16,9 +16,8 @@ use Rattle.params.specs.declared.MsarParams.{MsarParams}
 use Rattle.params.specs.Checks.{parameterCheck}
 use Rattle.params.specs.Built.{builtAfter, builtOf}
 use Rattle.params.proofs.Again.{again}
-use Rattle.binding.specs.Binding.{admittedCheck}
-use Rattle.binding.specs.declared.Tables.the-variants.{One}
-use Rattle.filter.specs.Filter.{runCheck}
+use Rattle.binding.specs.Binding.{admittedCheck, memoryCheck, workNeed, tableNeed}
+use Rattle.calls.specs.Calls.{runCheck}
 use Rattle.fit.specs.declared.Course.{Course}
 use Rattle.fit.specs.declared.Course.the-variants.{Going, Converged, Refused}
 use Rattle.fit.specs.Fit.{passesTo, fittedAfter, closed, endedAt, fittedOf}
@@ -56,9 +55,10 @@ passes : (S : MsarSpec) (y : List Float) (start : MsarParams) (maxIter : ℕ) (t
     → fitCall S y start maxIter tol work smoothed .answer .iterations ≤ maxIter
 unfolding fitCall fittedOf
 passes S y start maxIter tol work smoothed =
-    let admitted = admittedCheck S y start (length work) (One (length smoothed)) in
+    let own = memoryCheck (length work) (workNeed S y) before memoryCheck (length smoothed) (tableNeed S y) in
+    let admitted = admittedCheck S y own start in
     called-within maxIter (admitted before fitCheck start y) start work smoothed _ (λ e.
-    ended-within maxIter y start (passesTo y tol start maxIter .params) (passesTo y tol start maxIter .course) (passes-kept start y tol (parameters S y start (length work) (One (length smoothed)) (both admitted e .0)) maxIter))
+    ended-within maxIter y start (passesTo y tol start maxIter .params) (passesTo y tol start maxIter .course) (passes-kept start y tol (parameters S y start own (both admitted e .0)) maxIter))
 
 pub meanings : Meanings
 unfolding builtOf

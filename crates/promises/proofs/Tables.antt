@@ -4,7 +4,7 @@ use mathlib.Core.Path.{_≡_, refl, sym, ap, ap₂, subst, _∙_}
 use mathlib.Core.List.{List, []}
 use Prim.Native.Nat.{ℕ, _+_, _*_, _<_}
 use lib.Arith.{digits-lt, digits-div, digits-mod}
-use lib.ListN.{length, getD}
+use lib.ListN.{getD}
 use lib.Ieee.{Float}
 use Rattle.number.specs.Table.{_!_, cell}
 use Rattle.number.proofs.Table.{fill-at}
@@ -17,13 +17,11 @@ use Rattle.spec.specs.declared.MsarSpec.{MsarSpec}
 use Rattle.params.specs.declared.MsarParams.{MsarParams}
 use Rattle.params.specs.Parameters.{k, p}
 use Rattle.params.specs.Checks.{parameterCheck}
-use Rattle.stationary.specs.Stationary.{solvedShares}
-use Rattle.binding.specs.Binding.{boundCheck, boundAfter, workNeed, tableNeed, memoryCheck, tablesCheck, paramsCheck, admittedCheck, admitted}
-use Rattle.binding.specs.declared.Tables.{Tables}
-use Rattle.binding.specs.declared.Tables.the-variants.{One, Two}
+use Rattle.stationary.specs.Stationary.{startShares}
+use Rattle.binding.specs.Binding.{boundCheck, paramsCheck, admittedCheck}
 use Rattle.rows.specs.Rows.{probability, resultAt}
-use Rattle.filter.specs.Filter.{filteredRow, rowCount, startShares, runCheck, answerOf}
-use Rattle.calls.specs.Calls.{Outcome, called, filteredTable, filterCall, smoothCall}
+use Rattle.filter.specs.Filter.{filteredRow, rowCount, filterCheck}
+use Rattle.calls.specs.Calls.{Outcome, runCheck, runAnswer, called, filteredTable, filterCall, smoothCall}
 use Rattle.calls.proofs.Admitted.{is-admitted}
 use Rattle.calls.proofs.Runs.{run-says}
 use Rattle.c_layout.specs.Layout.{spelled}
@@ -43,57 +41,55 @@ module _ (c : Check) (work filtered smoothed : List Float) (run : Outcome) (answ
       go Passed e = (refl, refl)
       go (Failed r) e = (e, cc)
 
-module _ (S : MsarSpec) (y : List Float) (q : MsarParams) (work : ℕ) (tables : Tables) (passed : admittedCheck S y q work tables ≡ Passed) where
+module _ (S : MsarSpec) (y : List Float) (q : MsarParams) (own : Check) (passed : admittedCheck S y own q ≡ Passed) where
   shape : Shape (k q) (p q)
-  unfolding admitted
-  shape = is-admitted S y q work tables refl (ap (λ (c : Check). boundAfter c S y .check) passed) .shape
+  shape = is-admitted S y refl q own passed .shape
 
   pub parameters : parameterCheck q ≡ Passed
   unfolding admittedCheck paramsCheck
   parameters =
       let c₁ = both (boundCheck S y) passed in
-      let c₂ = both (memoryCheck work (workNeed S y)) (c₁ .1) in
-      let c₃ = both (tablesCheck tables (tableNeed S y)) (c₂ .1) in
-      both (parameterCheck q) (c₃ .1) .0
+      let c₂ = both own (c₁ .1) in
+      both (parameterCheck q) (c₂ .1) .0
 
   -- ---- the table of a run that passed
 
-  module _ (ran : runCheck q y ≡ Passed) (given : (s : ℕ) → s < k q → NotBelow (startShares q ! s)) (found : List Float) where
+  module _ (ran : runCheck q y ≡ Passed) (given : (s : ℕ) → s < k q → NotBelow (startShares q .values ! s)) (found : List Float) where
     place : (i s : ℕ) → i < rowCount q y → s < k q
-        → probability (k q) (p q) (filteredRow q y (startShares q) i) s ≡ cell (k q) (filteredTable q y found) i s
+        → probability (k q) (p q) (filteredRow q y (startShares q .values) i) s ≡ cell (k q) (filteredTable q y found) i s
     unfolding filteredTable resultAt
     place i s h l =
         rw ran
         (sym
-        (fill-at (resultAt (k q) (p q) (filteredRow q y (startShares q))) (rowCount q y * k q) found refl (i * k q + s) (digits-lt h l)
-        ∙ ap₂ (λ (r t : ℕ). probability (k q) (p q) (filteredRow q y (startShares q) r) t) (digits-div i l) (digits-mod i l)))
+        (fill-at (resultAt (k q) (p q) (filteredRow q y (startShares q .values))) (rowCount q y * k q) found refl (i * k q + s) (digits-lt h l)
+        ∙ ap₂ (λ (r t : ℕ). probability (k q) (p q) (filteredRow q y (startShares q .values) r) t) (digits-div i l) (digits-mod i l)))
 
     pub filtered-table : Demand3 q y (filteredTable q y found)
-    unfolding runCheck
+    unfolding runCheck filterCheck
     filtered-table i h =
         near-same _ _ _ _ (λ s l. place i s h l)
-        (filtered-near-one q y (startShares q) shape parameters given (rowCount q y) (both (solvedShares (k q) (q .transition) .check) ran .1) i h)
+        (filtered-near-one q y (startShares q .values) shape parameters given (rowCount q y) (both (startShares q .check) ran .1) i h)
 
--- ---- demand 3, of a call that is lent such tables, whatever its run leaves beside the filtered one
+-- ---- demand 3, of a call whatever it checks of its own, and whatever its run leaves beside the filtered table
 
-call-keeps : (S : MsarSpec) (y : List Float) (q : MsarParams) (lent : ℕ) (tables : Tables) (work found smoothed : List Float) (run : Outcome)
-    → run .answer ≡ answerOf q y → run .filtered ≡ filteredTable q y found
-    → Asked q (called (admittedCheck S y q lent tables) work found smoothed run)
-    → Demand3 q y (called (admittedCheck S y q lent tables) work found smoothed run .filtered)
-call-keeps S y q lent tables work found smoothed run answer table asked =
-    let c = was-admitted (admittedCheck S y q lent tables) work found smoothed run (asked .answers) in
+call-keeps : (S : MsarSpec) (y : List Float) (q : MsarParams) (own : Check) (work found smoothed : List Float) (run : Outcome)
+    → run .answer ≡ runAnswer q y → run .filtered ≡ filteredTable q y found
+    → Asked q (called (admittedCheck S y own q) work found smoothed run)
+    → Demand3 q y (called (admittedCheck S y own q) work found smoothed run .filtered)
+call-keeps S y q own work found smoothed run answer table asked =
+    let c = was-admitted (admittedCheck S y own q) work found smoothed run (asked .answers) in
     let ran = run-says q y answer (sym (ap (λ (o : Outcome). o .answer .check) (c .1)) ∙ asked .answers) in
-    subst (Demand3 q y) (sym (ap (λ (o : Outcome). o .filtered) (c .1) ∙ table)) (filtered-table S y q lent tables (c .0) ran (asked .shares) found)
+    subst (Demand3 q y) (sym (ap (λ (o : Outcome). o .filtered) (c .1) ∙ table)) (filtered-table S y q own (c .0) ran (asked .shares) found)
 
 of-filter : (S : MsarSpec) (y : List Float) (q : MsarParams) (work filtered : List Float)
     → Asked q (filterCall S y q work filtered) → Demand3 q y (filterCall S y q work filtered .filtered)
 unfolding filterCall
-of-filter S y q work filtered = call-keeps S y q (length work) (One (length filtered)) work filtered [] _ refl refl
+of-filter S y q work filtered = call-keeps S y q _ work filtered [] _ refl refl
 
 of-smooth : (S : MsarSpec) (y : List Float) (q : MsarParams) (work filtered smoothed : List Float)
     → Asked q (smoothCall S y q work filtered smoothed) → Demand3 q y (smoothCall S y q work filtered smoothed .filtered)
 unfolding smoothCall
-of-smooth S y q work filtered smoothed = call-keeps S y q (length work) (Two (length filtered) (length smoothed)) work filtered smoothed _ refl refl
+of-smooth S y q work filtered smoothed = call-keeps S y q _ work filtered smoothed _ refl refl
 
 -- ---- from C
 

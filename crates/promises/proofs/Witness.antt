@@ -24,16 +24,15 @@ use Rattle.spec.specs.declared.MsarSpec.{MsarSpec}
 use Rattle.params.specs.declared.MsarParams.{MsarParams}
 use Rattle.params.specs.Parameters.{matchesSpec}
 use Rattle.params.specs.Checks.{isProbability, columnSum, meanCheck, entryCheck, columnCheck, arCheck, varianceCheck, parameterCheck}
-use Rattle.stationary.specs.Stationary.{solvedShares}
+use Rattle.stationary.specs.Stationary.{solvedShares, startShares}
 use Rattle.stationary.specs.declared.Shares.{Shares}
 use Rattle.stationary.proofs.Examples as shares
-use Rattle.binding.specs.Binding.{readingCheck, seriesCheck, boundCheck, paramsCheck, admittedCheck}
-use Rattle.binding.specs.declared.Tables.the-variants.{One}
+use Rattle.binding.specs.Binding.{readingCheck, readingsCheck, lengthCheck, boundCheck, memoryCheck, paramsCheck, admittedCheck}
 use Rattle.rows.specs.Rows.{rowOf}
 use Rattle.density.specs.Density.{meanTo, logNormal, logDensity, density}
 use Rattle.prediction.specs.Prediction.{firstTo, firstPrediction}
-use Rattle.filter.specs.Filter.{weight, total, predictedRow, likelihood, likelihoodCheck, runCheck, answerOf, startShares}
-use Rattle.calls.specs.Calls.{filterCall}
+use Rattle.filter.specs.Filter.{weight, total, predictedRow, likelihood, likelihoodCheck, filterCheck}
+use Rattle.calls.specs.Calls.{runCheck, runAnswer, filterCall}
 use Rattle.promises.specs.Demand.{NotBelow, Asked}
 use Rattle.promises.specs.Twelve.{quarter, three-quarters, alike}
 
@@ -49,8 +48,8 @@ series = one ∷ []
 abbrev start : List Float
 start = quarter ∷ three-quarters ∷ replicate 14 zero⁺
 
-admitted : admittedCheck spec series params 6 (One 2) ≡ Passed
-unfolding admittedCheck boundCheck specCheck seriesCheck readingCheck paramsCheck matchesSpec parameterCheck meanCheck entryCheck columnCheck arCheck varianceCheck columnSum sumUp isProbability usable each magnitudeOf lt le eq ofBits mul div add sub neg sum round size units odd span climb ofFields trailingZeros
+admitted : admittedCheck spec series (memoryCheck 6 6 before memoryCheck 2 2) params ≡ Passed
+unfolding admittedCheck boundCheck specCheck lengthCheck readingsCheck readingCheck paramsCheck matchesSpec parameterCheck meanCheck entryCheck columnCheck arCheck varianceCheck columnSum sumUp isProbability usable each magnitudeOf lt le eq ofBits mul div add sub neg sum round size units odd span climb ofFields trailingZeros
 admitted = refl
 
 likely : usable (likelihood params series start 0) ≡ true
@@ -66,10 +65,10 @@ unfolding likelihoodCheck each
 passed = ap (λ (b : Bool). Likelihood 0 when not b) likely
 
 ran : runCheck params series ≡ Passed
-unfolding runCheck
+unfolding runCheck filterCheck
 ran = ap (λ (s : Shares). s .check before each 1 (likelihoodCheck params series (s .values))) from ∙ passed
 
-shares-are : (s : ℕ) → s < 2 → NotBelow (startShares params ! s)
+shares-are : (s : ℕ) → s < 2 → NotBelow (startShares params .values ! s)
 shares-are s h = subst (λ (x : Shares). NotBelow (x .values ! s)) (sym from) (go s h)
   where
     go : (s : ℕ) → s < 2 → NotBelow (start ! s)
@@ -78,5 +77,5 @@ shares-are s h = subst (λ (x : Shares). NotBelow (x .values ! s)) (sym from) (g
     go (suc (suc s)) h = absurd (not-suc-le-zero (le-of-suc-le-suc (le-of-suc-le-suc h)))
 
 pub asked : Asked params (filterCall spec series params (replicate 6 zero⁺) (replicate 2 zero⁺))
-unfolding filterCall answerOf
+unfolding filterCall runAnswer
 asked = record { answers = rw (admitted, ran); shares = shares-are }

@@ -29,6 +29,7 @@ use Rattle.density.proofs.weigh as density·weigh
 use Rattle.prediction.proofs.first_row as prediction·first_row
 use Rattle.prediction.proofs.steps as prediction·steps
 use Rattle.prediction.proofs.later_row as prediction·later_row
+use Rattle.calls.proofs.memory as calls·memory
 use Rattle.filter.proofs.refused as filter·refused
 use Rattle.filter.proofs.divide as filter·divide
 use Rattle.em_sample_variance.proofs.sample_variance as em_sample_variance·sample_variance
@@ -79,6 +80,7 @@ pub record BetweenCrates (M : Type 1) : Type 2 where
   pub first-row : One M prediction·first_row.ended prediction·first_row.clauses
   pub steps : One M prediction·steps.ended prediction·steps.clauses
   pub later-row : One M prediction·later_row.ended prediction·later_row.clauses
+  pub call-memory : One M calls·memory.ended calls·memory.clauses
   pub refused-answer : One M filter·refused.ended filter·refused.clauses
   pub divide : One M filter·divide.ended filter·divide.clauses
   -- the EM step and its parts

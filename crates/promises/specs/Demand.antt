@@ -15,7 +15,8 @@ use Rattle.refusal.specs.declared.Check.the-variants.{Passed}
 use Rattle.spec.specs.declared.MsarSpec.{MsarSpec}
 use Rattle.params.specs.declared.MsarParams.{MsarParams}
 use Rattle.params.specs.Parameters.{k, p}
-use Rattle.filter.specs.Filter.{rowCount, startShares}
+use Rattle.stationary.specs.Stationary.{startShares}
+use Rattle.filter.specs.Filter.{rowCount}
 use Rattle.calls.specs.Calls.{Outcome, filterCall, smoothCall}
 use Rattle.c_layout.specs.Layout.{paramsOf}
 use Rattle.c_interface.specs.Interface.{specOf, Left, left}
@@ -30,7 +31,7 @@ Demand3 q y table = (i : ℕ) → i < rowCount q y → NearOne (k q) (k q ^ suc 
 
 -- no share that the filter starts from is below zero
 abbrev pub SharesNotBelow : MsarParams → Type 0
-SharesNotBelow q = (s : ℕ) → s < k q → NotBelow (startShares q ! s)
+SharesNotBelow q = (s : ℕ) → s < k q → NotBelow (startShares q .values ! s)
 
 -- what demand 3 asks first: the call answers, and no such share is below zero
 pub record Asked (q : MsarParams) (outcome : Outcome) : Type 0 where

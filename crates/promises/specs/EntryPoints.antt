@@ -21,7 +21,7 @@ use Rattle.params.specs.Checks.{parameterCheck}
 use Rattle.params.specs.Durations.{durationsOf}
 use Rattle.params.specs.Built.{builtOf}
 use Rattle.stationary.specs.Stationary.{sharesOf}
-use Rattle.binding.specs.Binding.{boundCheck, boundOf, admitted}
+use Rattle.binding.specs.Binding.{boundCheck, boundOf, memoryCheck, paramsCheck}
 use Rattle.calls.specs.Calls.{loglikeCall, filterCall, smoothCall}
 use Rattle.fit.specs.Calls.{fitCall}
 use Rattle.text_decimal_read.specs.Text.{readOf}
@@ -54,7 +54,8 @@ use Rattle.params.proofs.MsarParams.check as params·check
 use Rattle.params.proofs.MsarParams.expected_durations as params·expected_durations
 use Rattle.stationary.proofs.stationary_shares as stationary·stationary_shares
 use Rattle.binding.proofs.bind as binding·bind
-use Rattle.binding.proofs.admit as binding·admit
+use Rattle.binding.proofs.memory as binding·memory
+use Rattle.binding.proofs.parameters as binding·parameters
 use Rattle.calls.proofs.loglike as calls·loglike
 use Rattle.calls.proofs.filter as calls·filter
 use Rattle.calls.proofs.smooth as calls·smooth
@@ -85,7 +86,7 @@ use Rattle.c_interface.proofs.msar_log as c·log
 use Rattle.c_interface.proofs.msar_exp as c·exp
 use Rattle.c_interface.proofs.msar_lnpdf as c·lnpdf
 use Rattle.promises.specs.Contracts.{OutcomeOf, EntryPoint}
-use Rattle.promises.specs.Types.{fn, value, table, reals, realsMut, bytes, realArray, realArrayMut, wholeArray, wholeArrayMut, model, made, Check, Refusal, MsarSpec, Windows, Solution, MsarParams, Built, Durations, Shares, Bound, Tables, Answer, Fitted, Parsed, Written}
+use Rattle.promises.specs.Types.{fn, value, table, reals, realsMut, bytes, realArray, realArrayMut, wholeArray, wholeArrayMut, model, made, Check, Refusal, MsarSpec, Windows, Solution, MsarParams, Built, Durations, Shares, Bound, Answer, Fitted, Parsed, Written}
 
 -- Below, `fn n parameters result` is a function's type (Types.antt), with the references numbered from 0. Its arguments are a tuple in the order of its
 -- parameters, and `now x` is what a reference x refers to at entry. An outcome is the result beside a tuple of the same order: what each parameter
@@ -207,11 +208,17 @@ bindType = fn 1 (value MsarSpec ∷ reals 0 tt ∷ []) (value Bound)
 abbrev pub bindOutcome : OutcomeOf bindType
 bindOutcome κs (s, (series, _)) = (boundOf s (now series), (tt, (tt, tt)))
 
-abbrev pub admitType : Ended
-admitType = fn 1 (value MsarSpec ∷ reals 0 tt ∷ value MsarParams ∷ value usize ∷ value Tables ∷ []) (value Bound)
+abbrev pub memoryType : Ended
+memoryType = fn 0 (value usize ∷ value usize ∷ []) (value Check)
 
-abbrev pub admitOutcome : OutcomeOf admitType
-admitOutcome κs (s, (series, (q, (work, (tables, _))))) = (admitted s (now series) q work tables, (tt, (tt, (tt, (tt, (tt, tt))))))
+abbrev pub memoryOutcome : OutcomeOf memoryType
+memoryOutcome κs (lent, (needed, _)) = (memoryCheck lent needed, (tt, (tt, tt)))
+
+abbrev pub parametersType : Ended
+parametersType = fn 0 (value MsarSpec ∷ value MsarParams ∷ []) (value Check)
+
+abbrev pub parametersOutcome : OutcomeOf parametersType
+parametersOutcome κs (s, (q, _)) = (paramsCheck s q, (tt, (tt, tt)))
 
 -- ---- the record: `new` keeps the very series and spec, and each method is the plain call on them
 
@@ -454,7 +461,8 @@ pub record EntryPoints (M : Type 1) : Type 2 where
   pub fit : EntryPoint M fitType fit·fit.clauses fit·fit.Symbol.routine fitOutcome
   -- the checks of what a call is handed
   pub bind : EntryPoint M bindType binding·bind.clauses binding·bind.Symbol.routine bindOutcome
-  pub admit : EntryPoint M admitType binding·admit.clauses binding·admit.Symbol.routine admitOutcome
+  pub memory : EntryPoint M memoryType binding·memory.clauses binding·memory.Symbol.routine memoryOutcome
+  pub parameters : EntryPoint M parametersType binding·parameters.clauses binding·parameters.Symbol.routine parametersOutcome
   -- the record
   pub record-new : EntryPoint M recordNewType record·new.clauses record·new.Symbol.routine recordNewOutcome
   pub record-loglike : EntryPoint M recordLoglikeType record·loglike.clauses record·loglike.Symbol.routine recordLoglikeOutcome

@@ -23,10 +23,10 @@ use Rattle.params.specs.declared.MsarParams.{MsarParams}
 use Rattle.params.specs.Built.{nothing}
 use Rattle.params.specs.Checks.{parameterCheck}
 use Rattle.params.specs.Durations.{durationsOf}
-use Rattle.stationary.specs.Stationary.{sharesOf}
+use Rattle.stationary.specs.Stationary.{sharesOf, startShares}
 use Rattle.rows.specs.Rows.{rowOf, probability}
 use Rattle.prediction.specs.Prediction.{laterPrediction}
-use Rattle.filter.specs.Filter.{predictedRow, startShares}
+use Rattle.filter.specs.Filter.{predictedRow}
 use Rattle.em_sample_variance.specs.Series.{sampleVariance}
 use Rattle.fit.specs.Calls.{FitOutcome, fitCall}
 use Rattle.rounding.specs.NearOne.{exactTotal, allowed, NearOne}
@@ -137,7 +137,7 @@ pub record Twelve : Type 0 where
   -- both columns (0.25, 0.75): shares 0.25, 0.75
   pub p4 : sharesOf (alike 0) ≡ record { check = Passed; values = quarter ∷ three-quarters ∷ replicate 14 zero⁺ }
   -- same P, p=1, first prediction 0.0625, 0.1875, 0.1875, 0.5625 (the filter's own first row, whatever the series)
-  pub p5 : (y : List Float) → predictedRow (alike 1) y (startShares (alike 1)) 0
+  pub p5 : (y : List Float) → predictedRow (alike 1) y (startShares (alike 1) .values) 0
       ≡ float 0x3FB0_0000_0000_0000 ∷ float 0x3FC8_0000_0000_0000 ∷ float 0x3FC8_0000_0000_0000 ∷ float 0x3FE2_0000_0000_0000 ∷ []
   -- P the 2 by 2 identity: 21
   pub p6 : told (sharesOf (columns 0 one zero⁺ zero⁺ one) .check) ≡ saying 21 0 zero⁺

@@ -19,7 +19,6 @@ use Rattle.params.proofs.Built as params·Built
 use Rattle.params.proofs.Durations as params·Durations
 use Rattle.stationary.proofs.Shares as stationary·Shares
 use Rattle.binding.proofs.Bound as binding·Bound
-use Rattle.binding.proofs.Tables as binding·Tables
 use Rattle.filter.proofs.Answer as filter·Answer
 use Rattle.fit.proofs.Fitted as fit·Fitted
 use Rattle.record.proofs.MarkovSwitchingAr as markov·MarkovSwitchingAr
@@ -103,9 +102,6 @@ Shares = stationary·Shares.the-row
 
 abbrev pub Bound : RattleType
 Bound = binding·Bound.the-row
-
-abbrev pub Tables : RattleType
-Tables = binding·Tables.the-row
 
 abbrev pub Answer : RattleType
 Answer = filter·Answer.the-row

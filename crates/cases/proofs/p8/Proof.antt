@@ -10,7 +10,7 @@ returns : tie.Need-returns
 returns c =
     within
     (ap₂ (λ (a b : ℕ). a + b) (ap₂ (λ (a b : ℕ). a + b) (c .before .before .in-units .ensures .0) (c .before .in-units2 .ensures .0)) (c .in-units3 .ensures .0)
-    ∙ p8 (c .before .before .before .before .before .before .before .before .before .before .before .before .before .sum-of .ensures) (c .before .before .before .before .before .before .before .before .before .before .before .divide .ensures) (c .before .before .before .before .before .before .before .before .store .ensures) (c .before .before .before .before .tabulate .ensures))
+    ∙ p8 (c .before .before .before .before .before .before .before .before .before .before .before .before .before .sum-of .ensures) (c .before .before .before .before .before .before .before .before .before .before .before .divide .ensures) (c .before .before .before .before .before .before .before .before .copy .ensures) (c .before .before .before .before .tabulate .ensures))
 
 pub p8-spec : {M : Type 1} → statement M
 p8-spec =
