@@ -13,8 +13,7 @@ use Rattle.refusal.specs.Checks.{_before_, _when_}
 use Rattle.refusal.specs.declared.Check.{Check}
 use Rattle.refusal.specs.declared.Check.the-variants.{Passed, Failed}
 use Rattle.refusal.specs.declared.Refusal.{Refusal}
-use Rattle.refusal.specs.declared.Refusal.the-variants.{FewRegimes, ManyWindows, ShortSeries, LongSeries}
-use Rattle.refusal.specs.declared.Refusal.the-variants as refusals
+use Rattle.refusal.specs.declared.Refusal.the-variants.{FewRegimes, ManyWindows, ShortSeries}
 use Rattle.refusal.proofs.Checks.{both, untrue}
 use Rattle.spec.specs.Spec.{specCheck, counted}
 use Rattle.spec.specs.declared.MsarSpec.{MsarSpec}

@@ -17,7 +17,7 @@ use Rattle.params.specs.Parameters.{k, p}
 use Rattle.rows.specs.Rows.{windowsOf}
 use Rattle.binding.specs.Binding.{boundCheck, boundOf, workNeed, tableNeed, memoryCheck, paramsCheck, admittedCheck}
 use Rattle.binding.specs.declared.Bound.{Bound}
-use Rattle.binding.proofs.Passed.{fits, same-shape, bound-counts, rows-are, windows-are, admits}
+use Rattle.binding.proofs.Passed.{fits, same-shape, bound-counts, rows-are, windows-are}
 
 -- memory that is lent and long enough
 pub long-enough : (lent needed : ℕ) → memoryCheck lent needed ≡ Passed → needed ≤ lent

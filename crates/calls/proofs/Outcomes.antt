@@ -14,7 +14,7 @@ use Rattle.params.specs.declared.MsarParams.{MsarParams}
 use Rattle.binding.specs.Binding.{admittedCheck, memoryCheck, workNeed, tableNeed}
 use Rattle.filter.specs.Filter.{answerAfter}
 use Rattle.filter.specs.declared.Answer.{Answer}
-use Rattle.calls.specs.Calls.{runAnswer, cleared, filteredTable, smoothedTable, Outcome, loglikeCall, filterCall, smoothCall}
+use Rattle.calls.specs.Calls.{runAnswer, cleared, filteredTable, smoothedTable, loglikeCall, filterCall, smoothCall}
 
 module _ (S : MsarSpec) (y : List Float) (q : MsarParams) (work : List Float) where
   -- what each call checks of its own

@@ -14,14 +14,14 @@ use Rattle.window.specs.Windows.{labels}
 use Rattle.window.specs.declared.Time.{Time}
 use Rattle.params.specs.declared.MsarParams.{MsarParams}
 use Rattle.params.specs.Parameters.{k, p}
-use Rattle.density.specs.Density.{density, logDensity, logNormal}
+use Rattle.density.specs.Density.{density, logDensity, normalExponent}
 use Rattle.density.specs.Steps.{deviationAt, logAt, meanAt, weightAt}
 
 module _ (q : MsarParams) (y : List Float) (t : Time) (predicted means deviations logarithms : List Float) where
   -- window a, whose places in the tables are the definition's
   pub weight-is : (a : ℕ) → means ! a ≡ meanAt q y t (p q) a → deviations ! a ≡ deviationAt q a → logarithms ! a ≡ logAt q a
       → weightAt (y ! (t .0)) means deviations logarithms predicted a ≡ predicted ! a ⊗ density q y t (labels (k q) (suc (p q)) a)
-  unfolding weightAt density logDensity logNormal meanAt deviationAt logAt labels
+  unfolding weightAt density logDensity normalExponent meanAt deviationAt logAt labels
   weight-is a e e' e'' = rw (e, e', e'')
 
   -- tables of m windows, as `means_row`, `deviations` and `logarithms` leave them

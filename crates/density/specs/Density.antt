@@ -20,11 +20,11 @@ meanTo q y t w zero = μ q (label w 0)
 meanTo q y t w (suc l) = meanTo q y t w l ⊕ φ q (label w 0) (suc l) ⊗ (y ! (t .0 - suc l) ⊖ μ q (label w (suc l)))
 
 -- the logarithm of the density of a normal number at that distance from its mean, by its standard deviation: lnpdf (distance / sd) - ln sd
-unfoldable pub logNormal : Float → Float → Float
-logNormal distance sd = lnpdfOf (distance ⊘ sd) ⊖ logOf sd
+unfoldable pub normalExponent : Float → Float → Float
+normalExponent distance sd = lnpdfOf (distance ⊘ sd) ⊖ logOf sd
 
 unfoldable pub logDensity : MsarParams → List Float → Time → List ℕ → Float
-logDensity q y t w = logNormal (y ! (t .0) ⊖ meanTo q y t w (p q)) (rootOf (variance q (label w 0)))
+logDensity q y t w = normalExponent (y ! (t .0) ⊖ meanTo q y t w (p q)) (rootOf (variance q (label w 0)))
 
 unfoldable pub density : MsarParams → List Float → Time → List ℕ → Float
 density q y t w = expOf (logDensity q y t w)

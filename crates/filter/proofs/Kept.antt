@@ -27,7 +27,7 @@ use Rattle.window.proofs.Windows.{number-labels}
 use Rattle.params.specs.declared.MsarParams.{MsarParams}
 use Rattle.params.specs.Parameters.{k, p}
 use Rattle.rows.specs.Rows.{Same, windowsOf}
-use Rattle.rows.specs.Memory.{predictedFrom, filteredFrom}
+use Rattle.rows.specs.Memory.{predictedFrom}
 use Rattle.rows.proofs.Rows.{row-at}
 use Rattle.rows.proofs.Stored.{stored-long, stored-there, stored-before, stored-behind, stored-rest}
 use Rattle.density.specs.Density.{density}

@@ -34,7 +34,7 @@ use Rattle.params.specs.Parameters.{k, p, P}
 use Rattle.params.specs.Checks.{slack, isProbability, meanCheck, entryCheck, parameterCheck}
 use Rattle.rows.specs.Rows.{entry, probability}
 use Rattle.rows.proofs.Rows.{row-at}
-use Rattle.density.specs.Density.{density, logDensity, logNormal}
+use Rattle.density.specs.Density.{density, logDensity, normalExponent}
 use Rattle.prediction.specs.Prediction.{firstTo, firstPrediction, laterPrediction}
 use Rattle.filter.specs.Filter.{weight, total, updated, predictedRow, filteredRow, likelihood, likelihoodCheck}
 use Rattle.filter.proofs.Weights.{weight-at}
@@ -77,7 +77,7 @@ module _ (q : MsarParams) (passed : parameterCheck q ≡ Passed) where
 -- ---- densities, whatever the parameters and the series
 
 pub density-not-below : (q : MsarParams) (y : List Float) (t : Time) (w : List ℕ) → NotBelow (density q y t w)
-unfolding density logDensity logNormal
+unfolding density logDensity normalExponent
 density-not-below q y t w = exp-not-below (_ ⊖ _) (sub-fits binary64 _ _)
 
 -- ---- predictions

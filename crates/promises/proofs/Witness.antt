@@ -29,7 +29,7 @@ use Rattle.stationary.specs.declared.Shares.{Shares}
 use Rattle.stationary.proofs.Examples as shares
 use Rattle.binding.specs.Binding.{readingCheck, readingsCheck, lengthCheck, boundCheck, memoryCheck, paramsCheck, admittedCheck}
 use Rattle.rows.specs.Rows.{rowOf}
-use Rattle.density.specs.Density.{meanTo, logNormal, logDensity, density}
+use Rattle.density.specs.Density.{meanTo, normalExponent, logDensity, density}
 use Rattle.prediction.specs.Prediction.{firstTo, firstPrediction}
 use Rattle.filter.specs.Filter.{weight, total, predictedRow, likelihood, likelihoodCheck, filterCheck}
 use Rattle.calls.specs.Calls.{runCheck, runAnswer, filterCall}
@@ -53,7 +53,7 @@ unfolding admittedCheck boundCheck specCheck lengthCheck readingsCheck readingCh
 admitted = refl
 
 likely : usable (likelihood params series start 0) ≡ true
-unfolding likelihood total weight predictedRow rowOf tab labels number firstPrediction firstTo density logDensity logNormal meanTo usable sumUp lnpdfOf rootOf rootPattern wholeRoot cut inUnits logOf logPoly logClose logMid logOut logFar logNormal expOf expPoly expZero expPart expScale signed expWhole expFar expNear expReduce expLarge ofBits toBits add sub mul div neg lt eq toUnsigned ofInt size
+unfolding likelihood total weight predictedRow rowOf tab labels number firstPrediction firstTo density logDensity normalExponent meanTo usable sumUp lnpdfOf rootOf rootPattern wholeRoot cut inUnits logOf logPoly logClose logMid logOut logFar logNormal expOf expPoly expZero expPart expScale signed expWhole expFar expNear expReduce expLarge ofBits toBits add sub mul div neg lt eq toUnsigned ofInt size
 likely = refl
 
 -- the shares are P4's

@@ -1,5 +1,5 @@
 -- Parameters that pass their checks have from 2 to 16 regimes. Assumes nothing.
-use mathlib.Core.Path.{_≡_, sym, _∙_}
+use mathlib.Core.Path.{_≡_}
 use mathlib.Core.Logic.{inl, inr}
 use Prim.Native.Nat.{ℕ, _<_, _≤_}
 use native.Mathlib.Omega.{arith}
@@ -12,7 +12,7 @@ use Rattle.refusal.specs.declared.Check.the-variants.{Passed, Failed}
 use Rattle.params.specs.Parameters.{k}
 use Rattle.params.specs.Checks.{parameterCheck}
 use Rattle.params.specs.declared.MsarParams.{MsarParams}
-use Rattle.stationary.specs.Stationary.{none, checked, solvedShares, sharesOf}
+use Rattle.stationary.specs.Stationary.{none, solvedShares, sharesOf}
 
 not-both : {c : Check} {r : Refusal} → c ≡ Passed → c ≡ Failed r → ⊥
 not-both p f = let z : _≡_ {A = ℕ} 0 1 = cc in omega arith

@@ -1,18 +1,16 @@
 -- The solved shares of document 01's P4 and P6, which the proofs of crates/promises and crates/cases cite. Assumes nothing.
 use mathlib.Core.Path.{_≡_, refl}
-use mathlib.Core.List.{List, [], _∷_, _++_}
-use Prim.Native.Nat.{ℕ}
+use mathlib.Core.List.{List, _∷_}
 use mathlib.Core.Option.{bind}
 use lib.ListN.{replicate}
 use lib.Ieee.{Float, add, sub, mul, div, neg, lt, le, eq, ne, ofBits}
 use Rattle.number.specs.Number.{zero⁺, one, float, magnitudeOf}
 use Rattle.number.specs.Table.{tab, fillAt}
 use Rattle.refusal.specs.Checks.{each}
-use Rattle.refusal.specs.declared.Check.the-variants.{Passed, Failed}
+use Rattle.refusal.specs.declared.Check.the-variants.{Passed}
 use Rattle.refusal.specs.declared.Refusal.the-variants.{Singular}
 use Rattle.linsolve.specs.Solver.{better, pivotTo, swapRows, placed, less, lessRow, clearRow, clearTo, column, eliminateTo, lessKnown, unknown, backTo, answer, solveOf}
 use Rattle.stationary.specs.Stationary.{coefficient, entry, side, shareTable, shareSides, shareCheck, none, solvedShares}
-use Rattle.stationary.specs.declared.Shares.{Shares}
 
 -- 0.25 and 0.75
 abbrev pub quarter : Float

@@ -1,3 +1,4 @@
+-- `bind` meets its contract: the spec, the series, and the counts that follow from both.
 use Prim.Native.Nat.{_<_, suc, _-_, _^_}
 use mathlib.Core.Path.{_≡_, sym, _∙_}
 use native.Mathlib.Omega.{arith}
@@ -9,9 +10,6 @@ use Rattle.binding.specs.Binding.{boundCheck}
 use Rattle.binding.proofs.Passed.{count-passed, count-refused, shape-of, power-of, Fits, fits, bound-spec, bound-series, bound-check, bound-passed}
 use Rattle.binding.proofs.bind.Statement.{statement}
 use Rattle.binding.proofs.bind.Tie as tie
-use Rattle.binding.proofs.refused.Reads as refused-reads
-use Rattle.binding.proofs.series.Reads as series-reads
-use Rattle.spec.proofs.MsarSpec.expanded_states.Reads as expanded-states-reads
 
 -- the spec passed, with its window count
 counted-m : (c : tie.After-m) → (specCheck (c .before .before .before .before .args .s .«k_regimes») (c .before .before .before .before .args .s .order) ≡ Passed) × (c .m .given .0 .0 ≡ c .before .before .before .before .args .s .«k_regimes» ^ suc (c .before .before .before .before .args .s .order))

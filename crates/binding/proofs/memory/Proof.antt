@@ -1,3 +1,4 @@
+-- `memory` meets its contract: its test is the definition's.
 use Prim.Native.Nat.{_-_}
 use borrow.Author.Tests.{lt-ltb, le-ltb}
 use Rattle.binding.proofs.memory.Statement.{statement}

@@ -1,11 +1,9 @@
+-- `parameters` meets its contract: the parameter checks, then 20.
 use Prim.Native.Nat.{_-_}
 use borrow.Author.Needs.{needs}
 use Rattle.binding.specs.Binding.{paramsCheck}
 use Rattle.binding.proofs.parameters.Statement.{statement}
 use Rattle.binding.proofs.parameters.Tie as tie
-use Rattle.binding.proofs.shape.Reads as shape-reads
-use Rattle.params.proofs.MsarParams.check.Reads as check-reads
-use Rattle.refusal.proofs.first_of.Reads as first-of-reads
 
 returns : tie.Need-returns
 unfolding paramsCheck

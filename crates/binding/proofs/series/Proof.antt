@@ -3,8 +3,6 @@ use mathlib.Core.Path.{sym, _∙_}
 use borrow.Author.Needs.{needs}
 use Rattle.binding.proofs.series.Statement.{statement}
 use Rattle.binding.proofs.series.Tie as tie
-use Rattle.binding.proofs.length_check.Reads as length-check-reads
-use Rattle.binding.proofs.readings.Reads as readings-reads
 
 returns : tie.Need-returns
 returns c = rw (sym (c .before .before .before .length-check .ensures) ∙ c .before .r .given .1)

@@ -1,8 +1,8 @@
+-- `shape` meets its contract: 20 where the record does not match the spec.
 use Prim.Native.Nat.{_-_}
 use borrow.Author.Needs.{needs}
 use Rattle.binding.proofs.shape.Statement.{statement}
 use Rattle.binding.proofs.shape.Tie as tie
-use Rattle.params.proofs.MsarParams.matches_spec.Reads as matches-spec-reads
 
 returns : tie.Need-returns
 returns c = rw (← c .before .matches-spec .ensures, c .if1 .taken)

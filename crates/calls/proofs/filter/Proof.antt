@@ -1,5 +1,5 @@
 -- `filter` meets its contract: refused with nothing touched, or what its run leaves.
-use Prim.Native.Nat.{_*_, _≤_}
+use Prim.Native.Nat.{_≤_}
 use mathlib.Core.Path.{_≡_, sym, subst, _∙_}
 use borrow.Author.Needs.{needs}
 use lib.ListN.{length}
@@ -13,12 +13,6 @@ use Rattle.calls.proofs.Admitted.{one-checked, Admitted, is-admitted, l
 use Rattle.calls.proofs.Outcomes.{loglikeOwn, filterOwn, filter-refused, filter-ran}
 use Rattle.calls.proofs.filter.Statement.{statement}
 use Rattle.calls.proofs.filter.Tie as tie
-use Rattle.binding.proofs.bind.Reads as bind-reads
-use Rattle.binding.proofs.parameters.Reads as parameters-reads
-use Rattle.filter.proofs.refused.Reads as refused-reads
-use Rattle.refusal.proofs.first_of.Reads as first-of-reads
-use Rattle.calls.proofs.memory.Reads as memory-reads
-use Rattle.calls.proofs.run_filter.Reads as run-filter-reads
 
 memory-requires : tie.Need-memory-requires
 memory-requires c κs = let s = small _ _ (c .bind .ensures) in (s .work, s .table)

@@ -1,5 +1,5 @@
 -- `loglike` meets its contract: refused with nothing touched, or what its run leaves.
-use Prim.Native.Nat.{_*_, _≤_}
+use Prim.Native.Nat.{_≤_}
 use mathlib.Core.Path.{_≡_, sym, subst, _∙_}
 use native.Mathlib.Omega.{arith}
 use borrow.Author.Needs.{needs}
@@ -13,12 +13,6 @@ use Rattle.calls.proofs.Admitted.{work-checked, Admitted, is-admitted, 
 use Rattle.calls.proofs.Outcomes.{loglikeOwn, loglike-refused, loglike-ran}
 use Rattle.calls.proofs.loglike.Statement.{statement}
 use Rattle.calls.proofs.loglike.Tie as tie
-use Rattle.binding.proofs.bind.Reads as bind-reads
-use Rattle.binding.proofs.memory.Reads as memory-reads
-use Rattle.binding.proofs.parameters.Reads as parameters-reads
-use Rattle.filter.proofs.refused.Reads as refused-reads
-use Rattle.refusal.proofs.first_of.Reads as first-of-reads
-use Rattle.calls.proofs.run_loglike.Reads as run-loglike-reads
 
 mul-memory : tie.Need-mul-memory
 mul-memory c = omega (arith, small _ _ (c .before .bind .ensures) .work)

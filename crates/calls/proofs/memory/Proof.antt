@@ -3,8 +3,6 @@ use native.Mathlib.Omega.{arith}
 use borrow.Author.Needs.{needs}
 use Rattle.calls.proofs.memory.Statement.{statement}
 use Rattle.calls.proofs.memory.Tie as tie
-use Rattle.binding.proofs.memory.Reads as memory-reads
-use Rattle.refusal.proofs.first_of.Reads as first-of-reads
 
 mul-memory : tie.Need-mul-memory
 mul-memory c = omega (arith, c .before .pre .0)

@@ -1,15 +1,10 @@
 -- `run` meets its contract: refused by the start shares, or what the filter from them gives.
-use Prim.Native.Nat.{_<_}
 use mathlib.Core.Path.{refl}
-use native.Mathlib.Omega.{arith}
 use borrow.Author.Needs.{needs}
 use Rattle.number.specs.Number.{zero⁺}
 use Rattle.calls.proofs.Runs.{run-refused, run-passed, held-from-start, answer-refused}
 use Rattle.calls.proofs.run.Statement.{statement}
 use Rattle.calls.proofs.run.Tie as tie
-use Rattle.filter.proofs.refused.Reads as refused-reads
-use Rattle.filter.proofs.run.Reads as run-reads
-use Rattle.stationary.proofs.solved_shares.Reads as solved-shares-reads
 
 -- the place of the shares, and the start
 abbrev start-of : tie.After-solved-shares → tie.Start

@@ -1,14 +1,10 @@
 -- `run_filter` meets its contract: the run's answer, its table where it was not refused, and memory cleared.
-use Prim.Native.Nat.{_<_}
 use mathlib.Core.Path.{refl}
 use native.Mathlib.Omega.{arith}
 use borrow.Author.Needs.{needs}
 use Rattle.calls.proofs.Runs.{run-cleared, work-small, windows-split, run-says, filtered-as-found, filtered-is}
 use Rattle.calls.proofs.run_filter.Statement.{statement}
 use Rattle.calls.proofs.run_filter.Tie as tie
-use Rattle.calls.proofs.run.Reads as run-reads
-use Rattle.rows.proofs.clear.Reads as clear-reads
-use Rattle.rows.proofs.tabulate.Reads as tabulate-reads
 
 -- the run, and the start before it
 abbrev start-of : tie.After-run → tie.Start

@@ -4,8 +4,6 @@ use borrow.Author.Needs.{needs}
 use Rattle.calls.proofs.Runs.{run-cleared}
 use Rattle.calls.proofs.run_loglike.Statement.{statement}
 use Rattle.calls.proofs.run_loglike.Tie as tie
-use Rattle.calls.proofs.run.Reads as run-reads
-use Rattle.rows.proofs.clear.Reads as clear-reads
 
 run-requires : tie.Need-run-requires
 run-requires c κs = let h = c .before .before .before .pre in (h .0, (h .1 .0, h .1 .1, h .1 .2, h .1 .3, omega (arith, h .1 .4)))

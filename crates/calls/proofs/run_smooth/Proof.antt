@@ -7,10 +7,6 @@ use Rattle.params.specs.Parameters.{k}
 use Rattle.calls.proofs.Runs.{drop-more, run-cleared, work-small, windows-split, run-says, filtered-as-found, smoothed-as-found, filtered-is, smoothed-is}
 use Rattle.calls.proofs.run_smooth.Statement.{statement}
 use Rattle.calls.proofs.run_smooth.Tie as tie
-use Rattle.calls.proofs.run.Reads as run-reads
-use Rattle.calls.proofs.smooth_rows.Reads as smooth-rows-reads
-use Rattle.rows.proofs.clear.Reads as clear-reads
-use Rattle.rows.proofs.tabulate.Reads as tabulate-reads
 
 -- the calls, and the start before them
 abbrev start-of : tie.After-run → tie.Start

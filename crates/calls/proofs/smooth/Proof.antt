@@ -1,5 +1,5 @@
 -- `smooth` meets its contract: refused with nothing touched, or what its run leaves.
-use Prim.Native.Nat.{_*_, _≤_}
+use Prim.Native.Nat.{_≤_}
 use mathlib.Core.Path.{_≡_, sym, subst, _∙_}
 use native.Mathlib.Omega.{arith}
 use borrow.Author.Needs.{needs}
@@ -14,13 +14,6 @@ use Rattle.calls.proofs.Admitted.{two-checked, Admitted, is-admitted, l
 use Rattle.calls.proofs.Outcomes.{loglikeOwn, smoothOwn, smooth-refused, smooth-ran}
 use Rattle.calls.proofs.smooth.Statement.{statement}
 use Rattle.calls.proofs.smooth.Tie as tie
-use Rattle.binding.proofs.bind.Reads as bind-reads
-use Rattle.binding.proofs.memory.Reads as memory-2-reads
-use Rattle.binding.proofs.parameters.Reads as parameters-reads
-use Rattle.filter.proofs.refused.Reads as refused-reads
-use Rattle.refusal.proofs.first_of.Reads as first-of-reads
-use Rattle.calls.proofs.memory.Reads as memory-reads
-use Rattle.calls.proofs.run_smooth.Reads as run-smooth-reads
 
 memory-requires : tie.Need-memory-requires
 memory-requires c κs = let s = small _ _ (c .bind .ensures) in (s .work, s .table)

@@ -1,14 +1,9 @@
 -- `smooth_rows` meets its contract: the rows are the smoother's, and so is their table.
-use Prim.Native.Nat.{ℕ, _*_}
-use mathlib.Core.Path.{_≡_, sym, subst}
 use native.Mathlib.Omega.{arith}
 use borrow.Author.Needs.{needs}
-use lib.ListN.{drop}
 use Rattle.calls.proofs.Runs.{windows-split, smoothed-tabled}
 use Rattle.calls.proofs.smooth_rows.Statement.{statement}
 use Rattle.calls.proofs.smooth_rows.Tie as tie
-use Rattle.rows.proofs.tabulate.Reads as tabulate-reads
-use Rattle.smoother.proofs.smooth.Reads as smooth-reads
 
 smooth-requires : tie.Need-smooth-requires
 smooth-requires c κs = let h = c .before .before .before .pre in (h .0, (h .1 .1, h .1 .2, rw (← h .1 .0) (h .1 .3)))

@@ -5,7 +5,7 @@ use Rattle.cases.proofs.sum_of.Statement.{statement}
 use Rattle.cases.proofs.sum_of.Tie as tie
 
 returns : tie.Need-returns
-returns c = sum-three (c .before .before .before .before .before .before .before .args .row .now) (c .before .before .before .before .before .copy .ensures) (c .before .tabulate .ensures)
+returns c = let copied = c .before .before .before .before .before in sum-three (copied .before .before .before .args .row .now) (copied .copy .ensures) (c .before .tabulate .ensures)
 
 pub sum-of-spec : {M : Type 1} → statement M
 sum-of-spec =

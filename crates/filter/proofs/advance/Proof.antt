@@ -2,9 +2,6 @@
 use borrow.Author.Needs.{needs}
 use Rattle.filter.proofs.advance.Statement.{statement}
 use Rattle.filter.proofs.advance.Tie as tie
-use Rattle.filter.proofs.divide.Reads as divide-reads
-use Rattle.filter.proofs.keep.Reads as keep-reads
-use Rattle.prediction.proofs.later_row.Reads as later-row-reads
 
 abbrev kept : tie.After-later-row → tie.After-keep
 kept c = c .before .before .before .before .before

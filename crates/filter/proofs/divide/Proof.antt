@@ -1,3 +1,4 @@
+-- `divide` meets its contract: each weight over the likelihood, place by place.
 use Prim.Native.Nat.{_-_, _≤_}
 use mathlib.Core.Path.{_≡_}
 use native.Mathlib.Omega.{arith}

@@ -1,22 +1,16 @@
 -- `each_row` meets its contract: the loop keeps what Kept.antt says, row by row.
-use Prim.Native.Nat.{_+_, _*_, _-_, _<_, _≤_}
+use Prim.Native.Nat.{_*_, _-_, _<_, _≤_}
 use mathlib.Core.Path.{_≡_, sym, _∙_}
 use native.Mathlib.Omega.{arith}
 use borrow.Author.Tests.{not-true, not-false}
 use borrow.Author.Needs.{needs}
 use lib.ListN.{length}
-use Rattle.number.specs.Number.{zero⁺, usable}
+use Rattle.number.specs.Number.{zero⁺}
 use Rattle.number.proofs.Table.{fill-long}
 use Rattle.filter.specs.Steps.{Weighed}
 use Rattle.filter.proofs.Kept.{Kept, kept-none, kept-bad, kept-more, answer-is, all-held, refusal-stays}
 use Rattle.filter.proofs.each_row.Statement.{statement}
 use Rattle.filter.proofs.each_row.Tie as tie
-use Rattle.filter.proofs.advance.Reads as advance-reads
-use Rattle.filter.proofs.refused.Reads as refused-reads
-use Rattle.filter.proofs.weigh_row.Reads as weigh-row-reads
-use Rattle.log.proofs.log.Reads as log-reads
-use Rattle.number.proofs.is_usable.Reads as is-usable-reads
-use Rattle.prediction.proofs.first_row.Reads as first-row-reads
 
 abbrev Inv-loop : tie.InvT-loop
 Inv-loop shares powers phis deviations logarithms steps power m y n work₀ q predicted₀ means₀ weights₀ loglik₀ i₀ work predicted means weights loglik i =

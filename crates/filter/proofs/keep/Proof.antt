@@ -6,7 +6,6 @@ use lib.ListN.{length}
 use Rattle.number.proofs.Table.{row-before, fillAt-long}
 use Rattle.filter.proofs.keep.Statement.{statement}
 use Rattle.filter.proofs.keep.Tie as tie
-use Rattle.number.proofs.copy.Reads as copy-reads
 
 -- row i of the filtered rows, and of the predicted ones behind them
 in-work : (c : tie.Start) → (c .args .i * c .args .m + c .args .m ≤ c .args .n * c .args .m) × (2 * (c .args .n * c .args .m) ≤ length (c .args .work .now))

@@ -7,12 +7,6 @@ use Rattle.window.proofs.Table.{order-at-most-7}
 use Rattle.filter.proofs.Start.{regimes-within, counted, answer-of-rows}
 use Rattle.filter.proofs.run.Statement.{statement}
 use Rattle.filter.proofs.run.Tie as tie
-use Rattle.density.proofs.deviations.Reads as deviations-reads
-use Rattle.density.proofs.logarithms.Reads as logarithms-reads
-use Rattle.density.proofs.phis.Reads as phis-reads
-use Rattle.filter.proofs.each_row.Reads as each-row-reads
-use Rattle.prediction.proofs.steps.Reads as steps-reads
-use Rattle.window.proofs.powers.Reads as powers-reads
 
 -- the places of the calls
 abbrev powers-of : tie.After-deviations → tie.After-powers

@@ -1,3 +1,4 @@
+-- `weigh_row` meets its contract: the weights of a row by the tables, and their sum.
 use Prim.Native.Nat.{_-_}
 use mathlib.Core.Path.{_≡_, ap, _∙_}
 use Prim.Native.Nat.{_+_}
@@ -9,9 +10,6 @@ use Rattle.window.proofs.Table.{order-at-most-7}
 use Rattle.filter.proofs.Weights.{weighed}
 use Rattle.filter.proofs.weigh_row.Statement.{statement}
 use Rattle.filter.proofs.weigh_row.Tie as tie
-use Rattle.density.proofs.means_row.Reads as means-row-reads
-use Rattle.density.proofs.weigh.Reads as weigh-reads
-use Rattle.window.proofs.time_of.Reads as time-of-reads
 
 -- the reading's time
 at-time : (c : tie.After-time-of) → c .time-of .result .0 ≡ c .before .before .args .order + c .before .before .args .row .0

@@ -1,10 +1,10 @@
+-- `answered` meets its contract: the parameters reached, tidied.
 use Rattle.fit.proofs.Ends.{answered-is}
-use Prim.Native.Nat.{_-_, _/_}
+use Prim.Native.Nat.{_-_}
 use borrow.Author.Needs.{needs}
 use Rattle.fit.proofs.answered.Statement.{statement}
 use Rattle.fit.proofs.answered.Tie as tie
 
--- src/lib.rt:187:1
 returns : tie.Need-returns
 returns c = answered-is (c .before .before .args .q) _ _ _ (c .before .passed .ensures)
 

@@ -3,7 +3,6 @@ use Prim.Native.Nat.{_*_, _<_}
 use mathlib.Core.Path.{refl, _∙_}
 use native.Mathlib.Omega.{arith}
 use borrow.Author.Needs.{needs}
-use Rattle.number.proofs.Table.{fill-long}
 use Rattle.params.specs.Parameters.{k}
 use Rattle.calls.proofs.Runs.{drop-more, run-cleared, work-small, run-says, smoothed-as-found, smoothed-is}
 use Rattle.fit.proofs.close.Statement.{statement}

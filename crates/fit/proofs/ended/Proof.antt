@@ -1,18 +1,16 @@
+-- `ended` meets its contract: what the closing pass says, with the parameters reached.
 use Rattle.fit.proofs.Ends.{ended-passed, ended-by-refusal}
-use Prim.Native.Nat.{_-_, _/_}
+use Prim.Native.Nat.{_-_}
 use borrow.Author.Needs.{needs}
 use Rattle.fit.proofs.ended.Statement.{statement}
 use Rattle.fit.proofs.ended.Tie as tie
 
--- src/lib.rt:262:26
 answered-requires : tie.Need-answered-requires
 answered-requires c κs = c .before .before .pre
 
--- src/lib.rt:256:1
 returns : tie.Need-returns
 returns c = ended-passed (c .before .before .before .args .answer) _ _ _ (c .before .enum-told .given .1) (c .answered .ensures)
 
--- src/lib.rt:256:1
 returns-2 : tie.Need-returns-2
 returns-2 c = let a = c .before .before .before .before .args in ended-by-refusal (a .answer) (a .q) (a .iterations) (a .converged) (c .before .before .check .given .1) (c .refused .ensures (a .q) (a .answer .loglik) (a .iterations) (a .converged))
 

@@ -1,10 +1,10 @@
+-- `refused` meets its contract: a refusal beside zeros.
 use Rattle.fit.proofs.Ends.{refused-is}
-use Prim.Native.Nat.{_-_, _/_}
+use Prim.Native.Nat.{_-_}
 use borrow.Author.Needs.{needs}
 use Rattle.fit.proofs.refused.Statement.{statement}
 use Rattle.fit.proofs.refused.Tie as tie
 
--- src/lib.rt:173:1
 returns : tie.Need-returns
 returns c = λ q l i d. refused-is (c .before .before .args .r) q l i d (c .before .refused .ensures)
 

@@ -1,5 +1,4 @@
 -- `run_fit` meets its contract: the refusal of the passes, or what the closing pass says at the parameters reached.
-use Prim.Native.Nat.{_*_, _≤_}
 use mathlib.Core.Bool.{false}
 use native.Mathlib.Omega.{arith}
 use borrow.Author.Needs.{needs}

@@ -1,11 +1,11 @@
+-- `stops` meets its contract: from the second pass on, the gain against tol.
 use Rattle.fit.specs.Fit.{stops}
 use lib.Ieee.{le}
-use Prim.Native.Nat.{_-_, _/_}
+use Prim.Native.Nat.{_-_}
 use borrow.Author.Needs.{needs}
 use Rattle.fit.proofs.stops.Statement.{statement}
 use Rattle.fit.proofs.stops.Tie as tie
 
--- src/lib.rt:68:1
 returns : tie.Need-returns
 unfolding le stops
 returns c = search needs

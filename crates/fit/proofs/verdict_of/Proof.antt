@@ -1,20 +1,18 @@
+-- `verdict_of` meets its contract: 26, converged, or going.
 use Rattle.fit.proofs.OnePass.{not-finite, converges, goes}
 use borrow.Author.Tests.{not-true, not-false}
-use Prim.Native.Nat.{_-_, _/_}
+use Prim.Native.Nat.{_-_}
 use mathlib.Core.Path.{sym, _∙_}
 use borrow.Author.Needs.{needs}
 use Rattle.fit.proofs.verdict_of.Statement.{statement}
 use Rattle.fit.proofs.verdict_of.Tie as tie
 
--- src/lib.rt:79:9
 returns : tie.Need-returns
 returns c = let a = c .before .before .args in not-finite (a .tol) (a .i) (a .last) (a .loglik) (sym (c .before .is-finite .ensures) ∙ not-true _ (c .if1 .taken))
 
--- src/lib.rt:85:9
 returns-2 : tie.Need-returns-2
 returns-2 c = let a = c .before .before .before .before .args in converges (a .tol) (a .i) (a .last) (a .loglik) (sym (c .before .before .before .is-finite .ensures) ∙ not-false _ (c .before .before .if1 .left)) (sym (c .before .stops .ensures) ∙ c .if2 .taken)
 
--- src/lib.rt:74:1
 returns-3 : tie.Need-returns-3
 returns-3 c = let a = c .before .before .before .before .args in goes (a .tol) (a .i) (a .last) (a .loglik) (sym (c .before .before .before .is-finite .ensures) ∙ not-false _ (c .before .before .if1 .left)) (sym (c .before .stops .ensures) ∙ c .if2 .left)
 

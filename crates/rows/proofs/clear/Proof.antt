@@ -1,3 +1,4 @@
+-- `clear` meets its contract: +0, place by place.
 use Prim.Native.Nat.{_-_, _≤_}
 use mathlib.Core.Path.{_≡_, refl}
 use native.Mathlib.Omega.{arith}

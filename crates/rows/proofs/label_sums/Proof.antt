@@ -1,3 +1,4 @@
+-- `label_sums` meets its contract: the probabilities of the labels of one row, place by place.
 use Prim.Native.Nat.{_-_, _≤_}
 use mathlib.Core.Path.{_≡_, refl}
 use native.Mathlib.Omega.{arith}
@@ -9,7 +10,6 @@ use lib.ListN.{length-set}
 use Rattle.rows.specs.Steps.{labelSum}
 use Rattle.rows.proofs.label_sums.Statement.{statement}
 use Rattle.rows.proofs.label_sums.Tie as tie
-use Rattle.rows.proofs.label_sum.Reads as label-sum-reads
 
 abbrev Inv-loop : tie.InvT-loop
 Inv-loop work from k power table₀ at i₀ table i = (i ≤ k) × (length table ≡ length table₀) × (table ≡ fillAt at (labelSum k power (drop from work)) i table₀)

@@ -1,3 +1,4 @@
+-- `tabulate` meets its contract: the table of results, row by row.
 use Prim.Native.Nat.{_+_, _*_, _-_, _≤_}
 use mathlib.Core.Path.{_≡_, refl, _∙_}
 use native.Mathlib.Nat.{zero-mul, suc-mul}
@@ -11,7 +12,6 @@ use Rattle.rows.specs.Steps.{labelSumAt}
 use Rattle.rows.proofs.Places.{results-of-row}
 use Rattle.rows.proofs.tabulate.Statement.{statement}
 use Rattle.rows.proofs.tabulate.Tie as tie
-use Rattle.rows.proofs.label_sums.Reads as label-sums-reads
 
 abbrev Inv-loop : tie.InvT-loop
 Inv-loop work k power m n table₀ i₀ table i = (i ≤ n) × (length table ≡ length table₀) × (table ≡ fillAt 0 (labelSumAt k power m work) (i * k) table₀)

@@ -1,3 +1,4 @@
+-- `scale_block` meets its contract: a block times the sums, place by place.
 use Prim.Native.Nat.{_-_, _≤_}
 use mathlib.Core.Path.{_≡_, refl}
 use native.Mathlib.Omega.{arith}

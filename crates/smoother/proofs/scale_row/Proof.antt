@@ -1,3 +1,4 @@
+-- `scale_row` meets its contract: a row times its sums, block by block.
 use Prim.Native.Nat.{_+_, _*_, _-_, _≤_}
 use mathlib.Core.Path.{_≡_, refl, _∙_}
 use native.Mathlib.Nat.{zero-mul}

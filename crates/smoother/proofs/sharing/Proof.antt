@@ -1,3 +1,4 @@
+-- `sharing` meets its contract: at order 0 each label has its sum, else windows share one.
 use Rattle.smoother.proofs.Common.{own-sums, shared-sums}
 use Rattle.smoother.proofs.sharing.Statement.{statement}
 use Rattle.smoother.proofs.sharing.Tie as tie

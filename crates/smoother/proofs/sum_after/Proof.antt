@@ -1,3 +1,4 @@
+-- `sum_after` meets its contract: the sum over the successors, one term further at each turn.
 use Prim.Native.Nat.{_+_, _*_, _-_, _<_, _≤_}
 use mathlib.Core.Logic.{⊎-elim}
 use mathlib.Core.Path.{_≡_, _∙_}

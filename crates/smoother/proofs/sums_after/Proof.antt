@@ -1,3 +1,4 @@
+-- `sums_after` meets its contract: the shared sums, one after another.
 use Prim.Native.Nat.{_+_, _*_, _-_, _%_, _<_, _≤_}
 use mathlib.Core.Path.{_≡_, refl, sym}
 use native.Mathlib.Nat.{zero-mod, mod-lt}

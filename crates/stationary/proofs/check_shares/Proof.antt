@@ -1,3 +1,4 @@
+-- `check_shares` meets its contract: 22 at the first share that is not finite or too far below zero.
 use mathlib.Core.Path.{_≡_, sym}
 use Prim.Native.Nat.{_-_, _≤_}
 use native.Mathlib.Omega.{arith}

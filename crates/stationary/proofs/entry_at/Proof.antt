@@ -1,3 +1,4 @@
+-- `entry_at` meets its contract: ones in the last row, else I - P.
 use native.Mathlib.Nat.{div-le-self}
 use native.Mathlib.Omega.{arith}
 use borrow.Author.Needs.{needs}

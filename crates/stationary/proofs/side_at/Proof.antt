@@ -1,4 +1,4 @@
-use native.Mathlib.Omega.{arith}
+-- `side_at` meets its contract: one in the last row, else +0.
 use borrow.Author.Needs.{needs}
 use Rattle.stationary.proofs.Entries.{last-side, other-side}
 use Rattle.stationary.proofs.side_at.Statement.{statement}

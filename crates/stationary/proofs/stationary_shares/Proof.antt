@@ -1,3 +1,4 @@
+-- `stationary_shares` meets its contract: the parameter checks, then the shares.
 use mathlib.Core.Path.{sym, _∙_}
 use native.Mathlib.Omega.{arith}
 use borrow.Author.Needs.{needs}
