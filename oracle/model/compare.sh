@@ -20,13 +20,14 @@ full) count=40000 fits=20000 ;;
 esac
 seed=${3:-1}
 [[ $seed =~ ^[0-9]+$ ]] || stop "the seed is a whole number"
-[[ $(uname -m) == x86_64 ]] || stop "the archive that rt staticlib writes is for x86-64, and this machine is $(uname -m)"
-for tool in rustc gcc python3; do
+for tool in rustc python3; do
     command -v "$tool" >/dev/null || stop "$tool is missing"
 done
 
 here=$(cd "$(dirname "${BASH_SOURCE[0]}")" && pwd)
 top=$(cd "$here/../.." && pwd)
+# the archive is for x86-64: on Arm it runs under the kit's emulator, beside the Rust compiled for this machine
+. "$top/tests/compiler.sh" || exit 2
 room=$(mktemp -d)
 trap 'rm -rf "$room"' EXIT
 export PYTHONDONTWRITEBYTECODE=1
@@ -38,13 +39,13 @@ else
     header=$top/include archive=$top/target/staticlib/libc_interface.a
 fi
 "$here/build.sh" "$1" "$room"
-gcc -std=c11 -O2 -Wall -Wextra -Werror -I"$header" -o "$room/candidate" "$here/candidate.c" "$archive" || exit 2
+"${cc[@]}" -std=c11 -O2 -Wall -Wextra -Werror -I"$header" -o "$room/candidate" "$here/candidate.c" "$archive" || exit 2
 
 python3 "$here/draw.py" calls "$seed" "$count" >"$room/calls"
 python3 "$here/draw.py" fits "$seed" "$fits" | cat "$room/calls" - >"$room/cases"
 "$room/routed/oracle" <"$room/cases" >"$room/oracle.answers" &
 oracle=$!
-"$room/candidate" short <"$room/cases" >"$room/candidate.answers" || stop "the candidate stopped"
+"${under[@]}" "$room/candidate" short <"$room/cases" >"$room/candidate.answers" || stop "the candidate stopped"
 wait "$oracle" || stop "the oracle stopped"
 # no fits: a last digit may decide how many passes one makes
 "$room/untouched/oracle" <"$room/calls" >"$room/untouched.answers"

@@ -23,8 +23,12 @@ use Rattle.params.proofs.tidy.refused as params·refused
 use Rattle.stationary.proofs.solved_shares as stationary·solved_shares
 use Rattle.rows.proofs.clear as rows·clear
 use Rattle.rows.proofs.tabulate as rows·tabulate
+use Rattle.density.proofs.block_of as density·block_of
+use Rattle.density.proofs.variances as density·variances
 use Rattle.density.proofs.deviations as density·deviations
+use Rattle.density.proofs.phis_of as density·phis_of
 use Rattle.density.proofs.phis as density·phis
+use Rattle.density.proofs.add_lags as density·add_lags
 use Rattle.density.proofs.weigh as density·weigh
 use Rattle.prediction.proofs.first_row as prediction·first_row
 use Rattle.prediction.proofs.steps as prediction·steps
@@ -74,8 +78,12 @@ pub record BetweenCrates (M : Type 1) : Type 2 where
   -- rows in memory, densities, predictions, the filter's parts
   pub clear : One M rows·clear.ended rows·clear.clauses
   pub tabulate : One M rows·tabulate.ended rows·tabulate.clauses
+  pub block-of : One M density·block_of.ended density·block_of.clauses
+  pub variances : One M density·variances.ended density·variances.clauses
   pub deviations : One M density·deviations.ended density·deviations.clauses
+  pub phis-of : One M density·phis_of.ended density·phis_of.clauses
   pub phis : One M density·phis.ended density·phis.clauses
+  pub add-lags : One M density·add_lags.ended density·add_lags.clauses
   pub weigh : One M density·weigh.ended density·weigh.clauses
   pub first-row : One M prediction·first_row.ended prediction·first_row.clauses
   pub steps : One M prediction·steps.ended prediction·steps.clauses
