@@ -1,6 +1,6 @@
 #!/bin/sh
 # Compares a million texts (values.py; another count and seed: compare.sh COUNT SEED), read and written again by crates/run_decimals, with
-# C's strtod and printf (judge.c). Run from the repository's top after `rt check decimals`; needs cc and python3.
+# C's strtod and printf (judge.c). Run from the repository's top after `rt check run_decimals`; needs cc and python3.
 set -e
 here=oracle/decimal
 work=$(mktemp -d)

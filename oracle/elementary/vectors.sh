@@ -1,5 +1,5 @@
 #!/usr/bin/env bash
-# Writes the test vectors of the crate vectors anew, by Java: FOLDER/stdin and FOLDER/stdout.
+# Writes the test vectors of the crate run_vectors anew, by Java: FOLDER/stdin and FOLDER/stdout.
 # oracle/elementary/vectors.sh [FOLDER]; FOLDER is crates/run_vectors where none is given.
 set -euo pipefail
 

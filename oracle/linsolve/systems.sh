@@ -1,5 +1,5 @@
 #!/usr/bin/env bash
-# Writes the systems of the crate systems anew, and the answers of the Rust's `solve`: FOLDER/stdin and FOLDER/stdout.
+# Writes the systems of the crate run_systems anew, and the answers of the Rust's `solve`: FOLDER/stdin and FOLDER/stdout.
 # oracle/linsolve/systems.sh SOURCES [FOLDER [SEED ROUNDS]]
 # SOURCES: the folder with the Rust sources (linsolve.rs); they are never copied into the repository.
 # FOLDER: crates/run_systems where none is given. SEED, ROUNDS: those of the crate's files where none are given.

@@ -1,5 +1,5 @@
 #!/usr/bin/env bash
-# Writes the recorded cases of the crate replay anew, and the answers of the Rust: stdin and stdout of that crate.
+# Writes the recorded cases of the crate run_replay anew, and the answers of the Rust: stdin and stdout of that crate.
 # oracle/model/record.sh SOURCES [FOLDER]
 # SOURCES: the folder with the Rust sources; they are never copied into the repository.
 set -euo pipefail
