@@ -131,7 +131,7 @@ int main(void)
     } sizes[] = {{2, 0, false}, {2, 7, false}, {4, 3, false}, {16, 1, false}, {2, 7, true}, {4, 3, true}, {16, 1, true}};
     static void *(*const calls[])(void *) = {loglike, filter, smooth, fit};
     static const char *const names[] = {"loglike", "filter", "smooth", "fit"};
-    size_t own = depth(nothing, NULL), deepest = 0, s, c;
+    size_t own = depth(nothing, NULL), deepest[2] = {0, 0}, s, c;
 
     for (s = 0; s < sizeof sizes / sizeof *sizes; s++) {
         struct job j = job(sizes[s].k, sizes[s].order, sizes[s].switching_ar);
@@ -142,11 +142,12 @@ int main(void)
                 stop("a call refused");
             printf("stack: %s, k = %zu, order %zu, %s coefficients, %d readings: %zu bytes\n", names[c], j.k, j.order,
                    j.switching_ar ? "switching" : "shared", READINGS, used);
-            if (used > deepest)
-                deepest = used;
+            if (used > deepest[calls[c] == fit])
+                deepest[calls[c] == fit] = used;
         }
         free(j.series), free(j.work), free(j.filtered), free(j.smoothed);
     }
-    printf("stack: the deepest call uses %zu of %d bytes; a thread by itself uses %zu\n", deepest, LIMIT, own);
-    return deepest <= LIMIT ? 0 : 1;
+    printf("stack: of %d bytes the fit uses %zu at most, the other calls %zu; a thread by itself uses %zu\n", LIMIT, deepest[1],
+           deepest[0], own);
+    return deepest[0] <= LIMIT && deepest[1] <= LIMIT ? 0 : 1;
 }

@@ -1,7 +1,6 @@
 -- A run from its start shares; what it leaves: work memory cleared, and the tables that the definition has. Assumes nothing.
 use Prim.Native.Nat.{ℕ, suc, _+_, _-_, _*_, _^_, _<_, _≤_}
 use mathlib.Core.Path.{_≡_, refl, sym, ap, subst, _∙_}
-use mathlib.Core.Bool.{true≢false}
 use mathlib.Core.List.{List}
 use native.Mathlib.Nat.{pow-suc, mul-le-mul}
 use native.Mathlib.Omega.{arith}
@@ -47,28 +46,18 @@ run-cleared n m found ran d e = all-cleared (2 * (n * m)) (3 * (n * m)) (omega a
 -- ---- the start shares, then the filter from them
 
 module _ (q : MsarParams) (y : List Float) {s : Shares} (shares : s ≡ startShares q) where
-  shares-check : {d : Check} → s .check ≡ d → startShares q .check ≡ d
-  shares-check c = sym (ap (λ (x : Shares). x .check) shares) ∙ c
-
-  pub run-refused : {a : Answer} {r : Refusal} (loglik : Float) → s .check ≡ Failed r → a ≡ answerAfter (Failed r) loglik → a ≡ runAnswer q y
-  unfolding runAnswer runCheck
-  run-refused loglik c e = rw (shares-check c) e
-
-  pub run-passed : {a : Answer} → s .check ≡ Passed → a ≡ filterAnswer q y (s .values) → a ≡ runAnswer q y
+  pub run-answer : {a : Answer} → a ≡ filterAnswer q y s → a ≡ runAnswer q y
   unfolding runAnswer runCheck runLoglik filterAnswer
-  run-passed c e = rw (shares-check c) (e ∙ ap (λ (x : Shares). filterAnswer q y (x .values)) shares)
+  run-answer e = e ∙ ap (filterAnswer q y) shares
 
-  pub held-from-start : {n m : ℕ} {work : List Float} → Held q y (s .values) n m n work → Held q y (startShares q .values) n m n work
-  held-from-start {n} {m} {work} h = subst (λ (x : Shares). Held q y (x .values) n m n work) shares h
+  pub values-are : s .values ≡ startShares q .values
+  values-are = ap (λ (x : Shares). x .values) shares
 
 -- ---- whether the run was refused
 
 answer-says : (c : Check) (loglik : Float) → answerAfter c loglik .check ≡ c
 answer-says Passed loglik = refl
 answer-says (Failed r) loglik = refl
-
-pub answer-refused : {a : Answer} {r : Refusal} (loglik : Float) → a ≡ answerAfter (Failed r) loglik → a .check ≡ Passed → ⊥
-answer-refused {a} {r} loglik e d = let f : Failed r ≡ Passed = sym (ap (λ (x : Answer). x .check) e) ∙ d in true≢false cc
 
 module _ (q : MsarParams) (y : List Float) {a : Answer} (answer : a ≡ runAnswer q y) {c : Check} where
   pub run-says : a .check ≡ c → runCheck q y ≡ c

@@ -9,8 +9,6 @@ ghost use Rattle.window.specs.Shape.{Shape};
 ghost use Rattle.params.specs.Parameters.{k, p};
 ghost use Rattle.rows.specs.Rows.{windowsOf, resultAt};
 ghost use Rattle.refusal.specs.Checks.{_before_};
-ghost use Rattle.refusal.specs.declared.Check.the-variants.{Passed};
-ghost use Rattle.stationary.specs.Stationary.{startShares};
 ghost use Rattle.filter.specs.Steps.{Held};
 ghost use Rattle.binding.specs.Binding.{memoryCheck};
 ghost use Rattle.calls.specs.Calls.{runAnswer, smoothedFrom, cleared, filteredTable, smoothedTable, Outcome, loglikeCall, filterCall, smoothCall};
@@ -22,22 +20,6 @@ use refusal::first_of;
 use spec::MsarSpec;
 
 // ---- after the checks: n rows of m windows, power = k^order
-
-// The start shares, and the filter from them.
-pub fn run(q: MsarParams, power: usize, m: usize, y: &[f64], n: usize, work: &mut [f64]) -> Answer
-    requires { ⌜ Shape (k q) (p q) ⌝ }
-    requires { ⌜ (m ≡ windowsOf q) × (power ≡ k q ^ p q) × (p q + n ≡ length (now y)) × (length (now y) ≤ 4096) × (2 * (n * m) ≤ length (now work)) ⌝ }
-    ensures answer { λ r. ⌜ r ≡ runAnswer q (now (y .entry)) ⌝ }
-    ensures same { λ _. ⌜ (length (now (work .exit)) ≡ length (now (work .entry))) × (drop (2 * (n * m)) (now (work .exit)) ≡ drop (2 * (n * m)) (now (work .entry))) ⌝ }
-    ensures rows { λ r. ⌜ (r .check ≡ Passed → Held q (now (y .entry)) (startShares q .values) n m n (now (work .exit))) ⌝ }
-{
-    let start = stationary::solved_shares(&q.transition, q.means_count);
-    let check = start.check;
-    if let Check::Failed(r) = check {
-        return filter::refused(r);
-    }
-    filter::run(q, &start.values, power, m, y, n, work)
-}
 
 // The smoothed rows, in the place of the filtered ones, and their table.
 pub fn smooth_rows(
@@ -57,7 +39,7 @@ pub fn smooth_rows(
     rows::tabulate(work, q.means_count, power, m, n, table);
 }
 
-// Work memory is cleared after every run, refused or not.
+// A run is the start shares and the filter from them. Work memory is cleared after it, refused or not.
 fn run_loglike(
     q: MsarParams,
     power: usize,
@@ -71,7 +53,8 @@ fn run_loglike(
     ensures answer { λ r. ⌜ r ≡ runAnswer q (now (y .entry)) ⌝ }
     ensures work { λ _. ⌜ now (work .exit) ≡ cleared (3 * (n * m)) (now (work .entry)) ⌝ }
 {
-    let answer = run(q, power, m, y, n, work);
+    let start = stationary::solved_shares(&q.transition, q.means_count);
+    let answer = filter::run(q, start, power, m, y, n, work);
     rows::clear(work, 3 * (n * m));
     answer
 }
@@ -92,7 +75,8 @@ fn run_filter(
     ensures work { λ _. ⌜ now (work .exit) ≡ cleared (3 * (n * m)) (now (work .entry)) ⌝ }
     ensures filtered { λ _. ⌜ now (filtered .exit) ≡ filteredTable q (now (y .entry)) (now (filtered .entry)) ⌝ }
 {
-    let answer = run(q, power, m, y, n, work);
+    let start = stationary::solved_shares(&q.transition, q.means_count);
+    let answer = filter::run(q, start, power, m, y, n, work);
     let check = answer.check;
     match check {
         Check::Passed => {
@@ -125,7 +109,8 @@ fn run_smooth(
     ensures filtered { λ _. ⌜ now (filtered .exit) ≡ filteredTable q (now (y .entry)) (now (filtered .entry)) ⌝ }
     ensures smoothed { λ _. ⌜ now (smoothed .exit) ≡ smoothedTable q (now (y .entry)) (now (smoothed .entry)) ⌝ }
 {
-    let answer = run(q, power, m, y, n, work);
+    let start = stationary::solved_shares(&q.transition, q.means_count);
+    let answer = filter::run(q, start, power, m, y, n, work);
     let check = answer.check;
     match check {
         Check::Passed => {

@@ -7,6 +7,9 @@ use native.Mathlib.Omega.{arith}
 use lib.ListN.{length}
 use lib.Ieee.{Float}
 use Rattle.refusal.specs.Checks.{each}
+use Rattle.refusal.specs.declared.Check.the-variants.{Passed, Failed}
+use Rattle.refusal.specs.declared.Refusal.{Refusal}
+use Rattle.stationary.specs.declared.Shares.{Shares}
 use Rattle.params.specs.declared.MsarParams.{MsarParams}
 use Rattle.params.specs.Parameters.{k, p}
 use Rattle.filter.specs.Filter.{likelihoodCheck, loglikTo, filterCheck, loglikOf, answerAfter, filterAnswer}
@@ -19,10 +22,15 @@ regimes-within k p h = let a = mul-le-mul-right k (one-le-pow p k h) in rw pow-s
 pub counted : (k p : ℕ) {m power : ℕ} → m ≡ k ^ suc p → power ≡ k ^ p → k * power ≡ m
 counted k p e d = rw (e, d, pow-suc k p) (mul-comm k (k ^ p))
 
--- the answer over n rows is the filter's
-pub answer-of-rows : (q : MsarParams) (y shares : List Float) {a : Answer} (n : ℕ) → p q + n ≡ length y
-    → a ≡ answerAfter (each n (likelihoodCheck q y shares)) (loglikTo q y shares n) → a ≡ filterAnswer q y shares
-unfolding filterAnswer filterCheck loglikOf
-answer-of-rows q y shares n rows e =
-    let counted-rows : n ≡ length y - p q = omega arith in
-    e ∙ ap (λ (j : ℕ). answerAfter (each j (likelihoodCheck q y shares)) (loglikTo q y shares j)) counted-rows
+-- the answer is the filter's: refused by the start shares, or what n rows say
+module _ (q : MsarParams) (y : List Float) (start : Shares) {a : Answer} where
+  pub answer-refused : {r : Refusal} (loglik : Float) → start .check ≡ Failed r → a ≡ answerAfter (Failed r) loglik → a ≡ filterAnswer q y start
+  unfolding filterAnswer
+  answer-refused loglik c e = rw c e
+
+  pub answer-of-rows : (n : ℕ) → p q + n ≡ length y → start .check ≡ Passed
+      → a ≡ answerAfter (each n (likelihoodCheck q y (start .values))) (loglikTo q y (start .values) n) → a ≡ filterAnswer q y start
+  unfolding filterAnswer filterCheck loglikOf
+  answer-of-rows n rows c e =
+      let counted-rows : n ≡ length y - p q = omega arith in
+      rw c (e ∙ ap (λ (j : ℕ). answerAfter (each j (likelihoodCheck q y (start .values))) (loglikTo q y (start .values) j)) counted-rows)

@@ -11,12 +11,13 @@ use Rattle.number.specs.Sums.{sumUp}
 use Rattle.log.specs.Log.{logOf}
 use Rattle.window.specs.Time.{timeOf}
 use Rattle.window.specs.Windows.{labels}
-use Rattle.refusal.specs.Checks.{_when_, each}
+use Rattle.refusal.specs.Checks.{_before_, _when_, each}
 use Rattle.refusal.specs.declared.Check.{Check}
 use Rattle.refusal.specs.declared.Check.the-variants.{Passed, Failed}
 use Rattle.refusal.specs.declared.Refusal.the-variants.{Likelihood}
 use Rattle.params.specs.declared.MsarParams.{MsarParams}
 use Rattle.params.specs.Parameters.{k, p}
+use Rattle.stationary.specs.declared.Shares.{Shares}
 use Rattle.rows.specs.Rows.{entry, rowOf}
 use Rattle.density.specs.Density.{density}
 use Rattle.prediction.specs.Prediction.{firstPrediction, laterPrediction}
@@ -76,5 +77,6 @@ abbrev pub answerAfter : Check → Float → Answer
 answerAfter Passed loglik = record { check = Passed; loglik = loglik }
 answerAfter (Failed r) loglik = record { check = Failed r; loglik = zero⁺ }
 
-unfoldable pub filterAnswer : MsarParams → List Float → List Float → Answer
-filterAnswer q y shares = answerAfter (filterCheck q y shares) (loglikOf q y shares)
+-- from shares that have a check of their own, which comes first
+unfoldable pub filterAnswer : MsarParams → List Float → Shares → Answer
+filterAnswer q y start = answerAfter (start .check before filterCheck q y (start .values)) (loglikOf q y (start .values))

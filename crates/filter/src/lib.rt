@@ -17,6 +17,7 @@ ghost use Rattle.filter.specs.Steps.{Scales, Weighed, Held};
 use params::MsarParams;
 use refusal::Check;
 use refusal::Refusal;
+use stationary::Shares;
 use window::Row;
 
 // The log-likelihood, or the refusal that stands in its place.
@@ -186,11 +187,11 @@ fn each_row(
     }
 }
 
-// The filter of a series, from the shares of the labels at the start. n is the count of rows, m that of windows, power
-// k^order.
+// The filter of a series from its start shares: their refusal, else the rows. n is the count of rows, m that of windows,
+// power k^order.
 pub fn run(
     q: MsarParams,
-    shares: &[f64; 16],
+    start: Shares,
     power: usize,
     m: usize,
     y: &[f64],
@@ -199,10 +200,15 @@ pub fn run(
 ) -> Answer
     requires { ⌜ Shape (k q) (p q) ⌝ }
     requires { ⌜ (m ≡ windowsOf q) × (power ≡ k q ^ p q) × (p q + n ≡ length (now y)) × (length (now y) ≤ 4096) × (2 * (n * m) ≤ length (now work)) ⌝ }
-    ensures answer { λ r. ⌜ r ≡ filterAnswer q (now (y .entry)) (now (shares .entry)) ⌝ }
+    ensures answer { λ r. ⌜ r ≡ filterAnswer q (now (y .entry)) start ⌝ }
     ensures same { λ _. ⌜ (length (now (work .exit)) ≡ length (now (work .entry))) × (drop (2 * (n * m)) (now (work .exit)) ≡ drop (2 * (n * m)) (now (work .entry))) ⌝ }
-    ensures rows { λ r. ⌜ (r .check ≡ Passed → Held q (now (y .entry)) (now (shares .entry)) n m n (now (work .exit))) ⌝ }
+    ensures rows { λ r. ⌜ (r .check ≡ Passed → Held q (now (y .entry)) (start .values) n m n (now (work .exit))) ⌝ }
 {
+    let check = start.check;
+    if let Check::Failed(r) = check {
+        return refused(r);
+    }
+    let shares = start.values;
     let powers = window::powers(q.means_count, q.order);
     let phis = density::phis(q);
     let deviations = density::deviations(q, m);
@@ -210,7 +216,7 @@ pub fn run(
     let steps = prediction::steps(q, m);
     each_row(
         q,
-        shares,
+        &shares,
         &powers,
         &phis,
         &deviations,

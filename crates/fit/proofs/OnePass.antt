@@ -150,6 +150,10 @@ module _ (y : List Float) (tol : Float) (i : ℕ) (q : MsarParams) (last : Float
 
 -- ---- memory, after the filter and the smoother
 
+-- rows from the same shares
+pub held-at : {q : MsarParams} {y shares shares′ : List Float} {n m i : ℕ} {work : List Float} → shares ≡ shares′ → Held q y shares n m i work → Held q y shares′ n m i work
+held-at {q} {y} {n = n} {m} {i} {work} e h = subst (λ (x : List Float). Held q y x n m i work) e h
+
 pub ready-long : {q : MsarParams} {y : List Float} {floor : Float} {power n lent lent′ : ℕ} → lent′ ≡ lent → Ready q y floor power n lent
     → Ready q y floor power n lent′
 ready-long {q} {y} {floor} {power} {n} e r = subst (λ (x : ℕ). Ready q y floor power n x) (sym e) r

@@ -113,7 +113,8 @@ fn judge(
     ensures rest { λ _. ⌜ (length (now (work .exit)) ≡ length (now (work .entry))) × (drop (2 * (n * m)) (now (work .exit)) ≡ drop (2 * (n * m)) (now (work .entry))) ⌝ }
     ensures rows { λ v. ⌜ (v .course ≡ Going → Held q (now (y .entry)) (startShares q .values) n m n (now (work .exit))) ⌝ }
 {
-    let answer = calls::run(q, power, m, y, n, work);
+    let start = stationary::solved_shares(&q.transition, q.means_count);
+    let answer = filter::run(q, start, power, m, y, n, work);
     let check = answer.check;
     if let Check::Failed(r) = check {
         return Verdict {
@@ -237,7 +238,8 @@ fn close(
     ensures work { λ _. ⌜ now (work .exit) ≡ cleared (3 * (n * m)) (now (work .entry)) ⌝ }
     ensures smoothed { λ _. ⌜ now (smoothed .exit) ≡ smoothedTable q (now (y .entry)) (now (smoothed .entry)) ⌝ }
 {
-    let answer = calls::run(q, power, m, y, n, work);
+    let start = stationary::solved_shares(&q.transition, q.means_count);
+    let answer = filter::run(q, start, power, m, y, n, work);
     let check = answer.check;
     match check {
         Check::Passed => {

@@ -2,13 +2,13 @@
 use mathlib.Core.Path.{refl}
 use native.Mathlib.Omega.{arith}
 use borrow.Author.Needs.{needs}
-use Rattle.calls.proofs.Runs.{run-cleared, work-small, windows-split, run-says, filtered-as-found, filtered-is}
+use Rattle.calls.proofs.Runs.{run-answer, values-are, run-cleared, work-small, windows-split, run-says, filtered-as-found, filtered-is}
 use Rattle.calls.proofs.run_filter.Statement.{statement}
 use Rattle.calls.proofs.run_filter.Tie as tie
 
 -- the run, and the start before it
 abbrev start-of : tie.After-run → tie.Start
-start-of c = c .before .before .before .before .before
+start-of c = c .before .before .before .before .before .before .before .before
 
 abbrev run-of : tie.After-tabulate → tie.After-run
 run-of c = c .before .before .before .before .before .before .before
@@ -16,8 +16,11 @@ run-of c = c .before .before .before .before .before .before .before
 abbrev refused-run : tie.After-clear2 → tie.After-run
 refused-run c = c .before .before .before .before .before .before
 
+solved-shares-requires : tie.Need-solved-shares-requires
+solved-shares-requires c κs = let h = c .before .before .before .before .before .pre in (h .0 .high, omega (arith, h .0 .low))
+
 run-requires : tie.Need-run-requires
-run-requires c κs = let h = c .before .before .before .before .pre in (h .0, (h .1 .0, h .1 .1, h .1 .2, h .1 .3, omega (arith, h .1 .4)))
+run-requires c κs = let h = c .before .before .before .before .before .before .before .pre in (h .0, (h .1 .0, h .1 .1, h .1 .2, h .1 .3, omega (arith, h .1 .4)))
 
 tabulate-requires : tie.Need-tabulate-requires
 tabulate-requires c κs =
@@ -26,10 +29,10 @@ tabulate-requires c κs =
     (omega (arith, h .0 .low), windows-split _ _ (h .1 .0) (h .1 .1), omega (arith, h .1 .4, run .run .ensures .1 .0 .0), h .1 .5)
 
 mul-clear : tie.Need-mul-clear
-mul-clear c = let s = start-of (run-of (c .before .before .before)) in omega (arith, work-small (s .args .q) _ _ _ (s .pre .0 .few) (s .pre .1 .0) (s .pre .1 .2) (s .pre .1 .3))
+mul-clear c = let s = start-of (run-of (c .before .before .before)) in omega (arith, work-small (s .args .t1) _ _ _ (s .pre .0 .few) (s .pre .1 .0) (s .pre .1 .2) (s .pre .1 .3))
 
 mul-clear-2 : tie.Need-mul-clear-2
-mul-clear-2 c = let s = start-of (run-of (c .before .before .before)) in omega (arith, work-small (s .args .q) _ _ _ (s .pre .0 .few) (s .pre .1 .0) (s .pre .1 .2) (s .pre .1 .3))
+mul-clear-2 c = let s = start-of (run-of (c .before .before .before)) in omega (arith, work-small (s .args .t1) _ _ _ (s .pre .0 .few) (s .pre .1 .0) (s .pre .1 .2) (s .pre .1 .3))
 
 clear-requires : tie.Need-clear-requires
 clear-requires c κs = let run = run-of (c .before .before .before) in omega (arith, start-of run .pre .1 .4, run .run .ensures .1 .0 .0)
@@ -42,12 +45,14 @@ returns c =
     let tabled = c .before .before .before .before .before .before in
     let run = run-of tabled in
     let s = start-of run in
+    let shares = run .before .before .solved-shares .ensures in
     let ran = run .run .ensures in
+    let answer = run-answer (s .args .t1) _ shares (ran .0) in
     let d = tabled .before .before .before .enum-told .given .1 in (
-      ran .0,
+      answer,
       (
         run-cleared _ _ _ _ (ran .1 .0 .1) (c .before .before .clear .ensures),
-        filtered-is (s .args .q) _ _ _ (omega (arith, s .pre .0 .low)) (s .pre .1 .0) (s .pre .1 .1) _ _ _ (ran .1 .1 d) (s .pre .1 .2) (run-says (s .args .q) _ (ran .0) d) refl _ (tabled .tabulate .ensures),
+        filtered-is (s .args .t1) _ _ _ (omega (arith, s .pre .0 .low)) (s .pre .1 .0) (s .pre .1 .1) _ _ _ (ran .1 .1 d) (s .pre .1 .2) (run-says (s .args .t1) _ answer d) (values-are (s .args .t1) (s .args .y .now) shares) _ (tabled .tabulate .ensures),
       ),
     )
 
@@ -56,12 +61,14 @@ returns-2 c =
     let run = refused-run (c .before .before) in
     let s = start-of run in
     let ran = run .run .ensures in
-    (ran .0, (run-cleared _ _ _ _ (ran .1 .0 .1) (c .before .before .clear2 .ensures), filtered-as-found (s .args .q) _ (run-says (s .args .q) _ (ran .0) (c .before .before .before .before .enum-told2 .given .1)) _))
+    let answer = run-answer (s .args .t1) _ (run .before .before .solved-shares .ensures) (ran .0) in
+    (answer, (run-cleared _ _ _ _ (ran .1 .0 .1) (c .before .before .clear2 .ensures), filtered-as-found (s .args .t1) _ (run-says (s .args .t1) _ answer (c .before .before .before .before .enum-told2 .given .1)) _))
 
 pub run-filter-spec : {M : Type 1} → statement M
 run-filter-spec =
     tie.close
     (tie.spec
+    solved-shares-requires
     run-requires
     (λ c. search needs)
     tabulate-requires

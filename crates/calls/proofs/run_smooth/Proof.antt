@@ -4,13 +4,13 @@ use mathlib.Core.Path.{refl, _∙_}
 use native.Mathlib.Omega.{arith}
 use borrow.Author.Needs.{needs}
 use Rattle.params.specs.Parameters.{k}
-use Rattle.calls.proofs.Runs.{drop-more, run-cleared, work-small, windows-split, run-says, filtered-as-found, smoothed-as-found, filtered-is, smoothed-is}
+use Rattle.calls.proofs.Runs.{run-answer, values-are, drop-more, run-cleared, work-small, windows-split, run-says, filtered-as-found, smoothed-as-found, filtered-is, smoothed-is}
 use Rattle.calls.proofs.run_smooth.Statement.{statement}
 use Rattle.calls.proofs.run_smooth.Tie as tie
 
 -- the calls, and the start before them
 abbrev start-of : tie.After-run → tie.Start
-start-of c = c .before .before .before .before .before .before
+start-of c = c .before .before .before .before .before .before .before .before .before
 
 abbrev run-of : tie.After-tabulate → tie.After-run
 run-of c = c .before .before .before .before .before .before .before
@@ -18,8 +18,11 @@ run-of c = c .before .before .before .before .before .before .before
 abbrev tabled-of : tie.After-smooth-rows → tie.After-tabulate
 tabled-of c = c .before .before .before .before .before
 
+solved-shares-requires : tie.Need-solved-shares-requires
+solved-shares-requires c κs = let h = c .before .before .before .before .before .before .pre in (h .0 .high, omega (arith, h .0 .low))
+
 run-requires : tie.Need-run-requires
-run-requires c κs = let h = c .before .before .before .before .before .pre in (h .0, (h .1 .0, h .1 .1, h .1 .2, h .1 .3, omega (arith, h .1 .4)))
+run-requires c κs = let h = c .before .before .before .before .before .before .before .before .pre in (h .0, (h .1 .0, h .1 .1, h .1 .2, h .1 .3, omega (arith, h .1 .4)))
 
 tabulate-requires : tie.Need-tabulate-requires
 tabulate-requires c κs =
@@ -34,10 +37,10 @@ smooth-rows-requires c κs =
     (h .0, (h .1 .0, h .1 .1, h .1 .7, omega (arith, h .1 .4, run .run .ensures .1 .0 .0), h .1 .6))
 
 mul-clear : tie.Need-mul-clear
-mul-clear c = let s = start-of (run-of (tabled-of (c .before .before .before .before .before))) in omega (arith, work-small (s .args .q) _ _ _ (s .pre .0 .few) (s .pre .1 .0) (s .pre .1 .2) (s .pre .1 .3))
+mul-clear c = let s = start-of (run-of (tabled-of (c .before .before .before .before .before))) in omega (arith, work-small (s .args .t1) _ _ _ (s .pre .0 .few) (s .pre .1 .0) (s .pre .1 .2) (s .pre .1 .3))
 
 mul-clear-2 : tie.Need-mul-clear-2
-mul-clear-2 c = let s = start-of (run-of (tabled-of (c .before .before .before .before .before))) in omega (arith, work-small (s .args .q) _ _ _ (s .pre .0 .few) (s .pre .1 .0) (s .pre .1 .2) (s .pre .1 .3))
+mul-clear-2 c = let s = start-of (run-of (tabled-of (c .before .before .before .before .before))) in omega (arith, work-small (s .args .t1) _ _ _ (s .pre .0 .few) (s .pre .1 .0) (s .pre .1 .2) (s .pre .1 .3))
 
 clear-requires : tie.Need-clear-requires
 clear-requires c κs =
@@ -54,16 +57,19 @@ returns c =
     let run = run-of tabled in
     let s = start-of run in
     let a = s .args in
+    let shares = run .before .before .solved-shares .ensures in
     let ran = run .run .ensures in
+    let answer = run-answer (a .t1) _ shares (ran .0) in
     let d = tabled .before .before .before .enum-told .given .1 in
-    let pos : 0 < k (a .q) = omega (arith, s .pre .0 .low) in
-    let passed = run-says (a .q) _ (ran .0) d in (
-      ran .0,
+    let pos : 0 < k (a .t1) = omega (arith, s .pre .0 .low) in
+    let values = values-are (a .t1) (a .y .now) shares in
+    let passed = run-says (a .t1) _ answer d in (
+      answer,
       (
         run-cleared _ _ _ _ (drop-more (a .n * a .m) (2 * (a .n * a .m)) _ _ (omega arith) (done .smooth-rows .ensures .0 .1) ∙ ran .1 .0 .1) (c .before .before .clear .ensures),
         (
-          filtered-is (a .q) _ _ _ pos (s .pre .1 .0) (s .pre .1 .1) _ _ _ (ran .1 .1 d) (s .pre .1 .2) passed refl _ (tabled .tabulate .ensures),
-          smoothed-is (a .q) _ _ _ pos (s .pre .1 .0) (s .pre .1 .1) _ _ _ (ran .1 .1 d) (s .pre .1 .2) passed refl _ (done .smooth-rows .ensures .1 _ _ (ran .1 .1 d)),
+          filtered-is (a .t1) _ _ _ pos (s .pre .1 .0) (s .pre .1 .1) _ _ _ (ran .1 .1 d) (s .pre .1 .2) passed values _ (tabled .tabulate .ensures),
+          smoothed-is (a .t1) _ _ _ pos (s .pre .1 .0) (s .pre .1 .1) _ _ _ (ran .1 .1 d) (s .pre .1 .2) passed values _ (done .smooth-rows .ensures .1 _ _ (ran .1 .1 d)),
         ),
       ),
     )
@@ -73,13 +79,15 @@ returns-2 c =
     let run = c .before .before .before .before .before .before .before .before in
     let s = start-of run in
     let ran = run .run .ensures in
-    let refused = run-says (s .args .q) _ (ran .0) (c .before .before .before .before .enum-told2 .given .1) in
-    (ran .0, (run-cleared _ _ _ _ (ran .1 .0 .1) (c .before .before .clear2 .ensures), (filtered-as-found (s .args .q) _ refused _, smoothed-as-found (s .args .q) _ refused _)))
+    let answer = run-answer (s .args .t1) _ (run .before .before .solved-shares .ensures) (ran .0) in
+    let refused = run-says (s .args .t1) _ answer (c .before .before .before .before .enum-told2 .given .1) in
+    (answer, (run-cleared _ _ _ _ (ran .1 .0 .1) (c .before .before .clear2 .ensures), (filtered-as-found (s .args .t1) _ refused _, smoothed-as-found (s .args .t1) _ refused _)))
 
 pub run-smooth-spec : {M : Type 1} → statement M
 run-smooth-spec =
     tie.close
     (tie.spec
+    solved-shares-requires
     run-requires
     (λ c. search needs)
     tabulate-requires

@@ -1,6 +1,7 @@
 -- `cases::p8`: P8: what the functions answer is the example's.
 use Prim.Native.Nat.{ℕ, _+_}
 use mathlib.Core.Path.{sym, ap₂, _∙_}
+use native.Mathlib.Omega.{arith}
 use borrow.Author.Needs.{needs}
 use Rattle.number.proofs.Table.{fill-long}
 use Rattle.cases.proofs.Values.{p8, within}
@@ -20,6 +21,9 @@ divided-of c = c .before .before .before
 -- the divided row is as long as it was
 slice-aggregate-copy : tie.Need-slice-aggregate-copy
 slice-aggregate-copy c = sym (fill-long _ 3 _ (c .before .divide .ensures) (search needs))
+
+copy-requires : tie.Need-copy-requires
+copy-requires c κs = let long = fill-long _ 3 _ (c .before .before .divide .ensures) (search needs) in (omega (arith, long), search needs)
 
 returns : tie.Need-returns
 returns c =
@@ -41,7 +45,7 @@ p8-spec =
     (λ c κs. search needs)
     slice-aggregate-copy
     (λ c. search needs)
-    (λ c κs. search needs)
+    copy-requires
     (λ c. search needs)
     (λ c. search needs)
     (λ c κs. search needs)

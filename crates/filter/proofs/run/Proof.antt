@@ -1,10 +1,12 @@
--- `run` meets its contract: the tables are what the rows need, and the answer over n rows is the filter's.
+-- `run` meets its contract: refused by the start shares, or the answer over n rows, for which the tables are what they need.
 use Prim.Native.Nat.{_<_, _≤_}
 use mathlib.Core.Path.{refl, sym}
 use native.Mathlib.Omega.{arith}
 use borrow.Author.Needs.{needs}
 use Rattle.window.proofs.Table.{order-at-most-7}
-use Rattle.filter.proofs.Start.{regimes-within, counted, answer-of-rows}
+use Rattle.number.specs.Number.{zero⁺}
+use Rattle.filter.proofs.Kept.{refusal-stays}
+use Rattle.filter.proofs.Start.{regimes-within, counted, answer-refused, answer-of-rows}
 use Rattle.filter.proofs.run.Statement.{statement}
 use Rattle.filter.proofs.run.Tie as tie
 
@@ -13,13 +15,13 @@ abbrev powers-of : tie.After-deviations → tie.After-powers
 powers-of c = c .before .before
 
 abbrev start-of : tie.After-powers → tie.Start
-start-of c = c .before .before .before
+start-of c = c .before .before .before .before .before .before
 
 abbrev deviations-of : tie.After-logarithms → tie.After-deviations
 deviations-of c = c .before .before
 
 abbrev logarithms-of : tie.After-each-row-arg → tie.After-logarithms
-logarithms-of c = c .before .before .before .before .before .before .before
+logarithms-of c = c .before .before .before .before .before .before .before .before
 
 positive : (c : tie.Start) → 0 < c .args .q .«means_count»
 positive c = omega (arith, c .pre .0 .low)
@@ -49,7 +51,7 @@ each-row-requires c κs =
       (
         (s .pre .1 .0, counted (s .args .q .«means_count») (s .args .q .order) (s .pre .1 .0) (s .pre .1 .1), s .pre .1 .1, s .pre .1 .2, s .pre .1 .3, s .pre .1 .4),
         (
-          (powers-of d .powers .ensures, c .before .before .before .before .before .before .steps .ensures),
+          (powers-of d .powers .ensures, c .before .before .before .before .before .before .before .steps .ensures),
           record {
             parts = record { count-is = refl; order-is = refl; means-are = refl; phis-are = sym (d .before .phis .ensures) };
             deviations-are = d .deviations .ensures;
@@ -61,15 +63,25 @@ each-row-requires c κs =
 
 returns : tie.Need-returns
 returns c =
+    let s = c .before .before .before .before .before .before in
+    (answer-refused (s .args .q) _ (s .args .start) zero⁺ (c .before .before .check .given .1) (c .refused .ensures zero⁺), ((refl, refl), λ d. absurd (refusal-stays zero⁺ (c .refused .ensures zero⁺) d)))
+
+returns-2 : tie.Need-returns-2
+returns-2 c =
     let rows = c .before .before in
-    let s = start-of (powers-of (deviations-of (logarithms-of (rows .before)))) in
+    let powers = powers-of (deviations-of (logarithms-of (rows .before))) in
+    let s = start-of powers in
     let done = rows .each-row .ensures in
-    (answer-of-rows (s .args .q) _ _ _ (s .pre .1 .2) (done .0), done .1)
+    (answer-of-rows (s .args .q) _ (s .args .start) _ (s .pre .1 .2) (powers .before .before .enum-told .given .1) (done .0), done .1)
 
 pub run-spec : {M : Type 1} → statement M
 run-spec =
     tie.close
     (tie.spec
+    (λ c. search needs)
+    (λ c κs. search needs)
+    returns
+    (λ c. search needs)
     (λ c κs. search needs)
     phis-requires
     deviations-requires
@@ -77,4 +89,4 @@ run-spec =
     (λ c κs. search needs)
     each-row-requires
     (λ c. search needs)
-    returns)
+    returns-2)

@@ -4,19 +4,22 @@ use mathlib.Core.Path.{refl, _∙_}
 use native.Mathlib.Omega.{arith}
 use borrow.Author.Needs.{needs}
 use Rattle.params.specs.Parameters.{k}
-use Rattle.calls.proofs.Runs.{drop-more, run-cleared, work-small, run-says, smoothed-as-found, smoothed-is}
+use Rattle.calls.proofs.Runs.{run-answer, values-are, drop-more, run-cleared, work-small, run-says, smoothed-as-found, smoothed-is}
 use Rattle.fit.proofs.close.Statement.{statement}
 use Rattle.fit.proofs.close.Tie as tie
 
 -- the run, and the start before it
 abbrev start-of : tie.After-run → tie.Start
-start-of c = c .before .before .before .before .before
+start-of c = c .before .before .before .before .before .before .before .before
 
 abbrev run-of : tie.After-smooth-rows → tie.After-run
 run-of c = c .before .before .before .before .before .before .before
 
+solved-shares-requires : tie.Need-solved-shares-requires
+solved-shares-requires c κs = let h = c .before .before .before .before .before .pre in (h .0 .high, omega (arith, h .0 .low))
+
 run-requires : tie.Need-run-requires
-run-requires c κs = let h = c .before .before .before .before .pre in (h .0, (h .1 .0, h .1 .1, h .1 .2, h .1 .3, omega (arith, h .1 .4)))
+run-requires c κs = let h = c .before .before .before .before .before .before .before .pre in (h .0, (h .1 .0, h .1 .1, h .1 .2, h .1 .3, omega (arith, h .1 .4)))
 
 smooth-rows-requires : tie.Need-smooth-rows-requires
 smooth-rows-requires c κs =
@@ -25,10 +28,10 @@ smooth-rows-requires c κs =
     (h .0, (h .1 .0, h .1 .1, h .1 .6, omega (arith, h .1 .4, run .run .ensures .1 .0 .0), h .1 .5))
 
 mul-clear : tie.Need-mul-clear
-mul-clear c = let s = start-of (run-of (c .before .before .before .before .before)) in omega (arith, work-small (s .args .q) _ _ _ (s .pre .0 .few) (s .pre .1 .0) (s .pre .1 .2) (s .pre .1 .3))
+mul-clear c = let s = start-of (run-of (c .before .before .before .before .before)) in omega (arith, work-small (s .args .t1) _ _ _ (s .pre .0 .few) (s .pre .1 .0) (s .pre .1 .2) (s .pre .1 .3))
 
 mul-clear-2 : tie.Need-mul-clear-2
-mul-clear-2 c = let s = start-of (run-of (c .before .before .before .before .before)) in omega (arith, work-small (s .args .q) _ _ _ (s .pre .0 .few) (s .pre .1 .0) (s .pre .1 .2) (s .pre .1 .3))
+mul-clear-2 c = let s = start-of (run-of (c .before .before .before .before .before)) in omega (arith, work-small (s .args .t1) _ _ _ (s .pre .0 .few) (s .pre .1 .0) (s .pre .1 .2) (s .pre .1 .3))
 
 clear-requires : tie.Need-clear-requires
 clear-requires c κs =
@@ -36,10 +39,10 @@ clear-requires c κs =
     omega (arith, start-of run .pre .1 .4, run .run .ensures .1 .0 .0, c .before .before .before .before .before .smooth-rows .ensures .0 .0)
 
 mul-clear-3 : tie.Need-mul-clear-3
-mul-clear-3 c = let s = start-of (c .before .before .before .before .before) in omega (arith, work-small (s .args .q) _ _ _ (s .pre .0 .few) (s .pre .1 .0) (s .pre .1 .2) (s .pre .1 .3))
+mul-clear-3 c = let s = start-of (c .before .before .before .before .before) in omega (arith, work-small (s .args .t1) _ _ _ (s .pre .0 .few) (s .pre .1 .0) (s .pre .1 .2) (s .pre .1 .3))
 
 mul-clear-4 : tie.Need-mul-clear-4
-mul-clear-4 c = let s = start-of (c .before .before .before .before .before) in omega (arith, work-small (s .args .q) _ _ _ (s .pre .0 .few) (s .pre .1 .0) (s .pre .1 .2) (s .pre .1 .3))
+mul-clear-4 c = let s = start-of (c .before .before .before .before .before) in omega (arith, work-small (s .args .t1) _ _ _ (s .pre .0 .few) (s .pre .1 .0) (s .pre .1 .2) (s .pre .1 .3))
 
 clear-requires-2 : tie.Need-clear-requires-2
 clear-requires-2 c κs = omega (arith, start-of (c .before .before .before .before .before) .pre .1 .4, c .before .before .before .before .before .run .ensures .1 .0 .0)
@@ -50,27 +53,31 @@ returns c =
     let run = run-of done in
     let s = start-of run in
     let a = s .args in
+    let shares = run .before .before .solved-shares .ensures in
     let ran = run .run .ensures in
+    let answer = run-answer (a .t1) _ shares (ran .0) in
     let d = done .before .before .before .enum-told .given .1 in
-    let pos : 0 < k (a .q) = omega (arith, s .pre .0 .low) in (
-      ran .0,
+    let pos : 0 < k (a .t1) = omega (arith, s .pre .0 .low) in (
+      answer,
       (
         run-cleared _ _ _ _ (drop-more (a .n * a .m) (2 * (a .n * a .m)) _ _ (omega arith) (done .smooth-rows .ensures .0 .1) ∙ ran .1 .0 .1) (c .before .before .clear .ensures),
-        smoothed-is (a .q) _ _ _ pos (s .pre .1 .0) (s .pre .1 .1) _ _ _ (ran .1 .1 d) (s .pre .1 .2) (run-says (a .q) _ (ran .0) d) refl _ (done .smooth-rows .ensures .1 _ _ (ran .1 .1 d)),
+        smoothed-is (a .t1) _ _ _ pos (s .pre .1 .0) (s .pre .1 .1) _ _ _ (ran .1 .1 d) (s .pre .1 .2) (run-says (a .t1) _ answer d) (values-are (a .t1) (a .y .now) shares) _ (done .smooth-rows .ensures .1 _ _ (ran .1 .1 d)),
       ),
     )
 
 returns-2 : tie.Need-returns-2
 returns-2 c =
     let run = c .before .before .before .before .before .before .before .before in
-    let q = start-of run .args .q in
+    let q = start-of run .args .t1 in
     let ran = run .run .ensures in
-    (ran .0, (run-cleared _ _ _ _ (ran .1 .0 .1) (c .before .before .clear2 .ensures), smoothed-as-found q _ (run-says q _ (ran .0) (c .before .before .before .before .enum-told2 .given .1)) _))
+    let answer = run-answer q _ (run .before .before .solved-shares .ensures) (ran .0) in
+    (answer, (run-cleared _ _ _ _ (ran .1 .0 .1) (c .before .before .clear2 .ensures), smoothed-as-found q _ (run-says q _ answer (c .before .before .before .before .enum-told2 .given .1)) _))
 
 pub close-spec : {M : Type 1} → statement M
 close-spec =
     tie.close
     (tie.spec
+    solved-shares-requires
     run-requires
     (λ c. search needs)
     smooth-rows-requires
