@@ -6,14 +6,12 @@ ghost use Rattle.c_layout.specs.Layout.{part, paramsOf};
 use params::MsarParams;
 
 // Copies numbers from place `start` on, as many as there is room for.
-fn copy(copied: &mut [f64], numbers: &[f64; 400], start: usize)
-    requires { ⌜ start + length (now copied) ≤ 400 ⌝ }
+fn copy(copied: &mut [f64], numbers: &[f64], start: usize)
+    requires { ⌜ start + length (now copied) ≤ length (now numbers) ⌝ }
     ensures { λ _. ⌜ now (copied .exit) ≡ part start (length (now (copied .entry))) (now (numbers .entry)) ⌝ }
 {
     let n = copied.len();
-    for i in 0..n {
-        copied[i] = numbers[start + i];
-    }
+    number::copy(&numbers[start..], n, copied, 0)
 }
 
 fn part_16(numbers: &[f64; 400], start: usize) -> [f64; 16]

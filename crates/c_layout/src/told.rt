@@ -2,9 +2,6 @@
 ghost use mathlib.Core.Path.{_≡_};
 ghost use Rattle.number.specs.Number.{zero⁺};
 ghost use Rattle.refusal.specs.declared.Check.the-variants.{Failed};
-ghost use Prim.Native.Nat.{_+_, _≤_};
-ghost use lib.ListN.{length};
-ghost use Rattle.number.specs.Table.{_!_, fillAt};
 ghost use Rattle.c_layout.specs.Layout.{spelled, windowsSpelled, listed, laidOut, flag, fitSpelled, numbersAfter};
 use params::MsarParams;
 use refusal::Check;
@@ -91,24 +88,14 @@ pub fn spell_fit(
     }
 }
 
-// The first n places of a part, from place `start` on.
-fn put(numbers: &mut [f64], start: usize, part: &[f64], n: usize)
-    requires { ⌜ (start + n ≤ length (now numbers)) × (n ≤ length (now part)) ⌝ }
-    ensures { λ _. ⌜ now (numbers .exit) ≡ fillAt start (λ i. now (part .entry) ! i) n (now (numbers .entry)) ⌝ }
-{
-    for i in 0..n {
-        numbers[start + i] = part[i];
-    }
-}
-
 fn laid(q: MsarParams) -> [f64; 400]
     ensures { λ r. ⌜ r ≡ laidOut q ⌝ }
 {
     let mut numbers = [0.0; 400];
-    put(&mut numbers, 0, &q.transition, 256);
-    put(&mut numbers, 256, &q.means, 16);
-    put(&mut numbers, 272, &q.ar, 112);
-    put(&mut numbers, 384, &q.variances, 16);
+    number::copy(&q.transition, 256, &mut numbers, 0);
+    number::copy(&q.means, 16, &mut numbers, 256);
+    number::copy(&q.ar, 112, &mut numbers, 272);
+    number::copy(&q.variances, 16, &mut numbers, 384);
     numbers
 }
 

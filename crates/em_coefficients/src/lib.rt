@@ -166,26 +166,22 @@ fn add_row(
 // ---- the blocks
 
 // The table of the block that stands from `at` on.
-fn table_at(tables: &[f64; 784], at: usize, n: usize) -> [f64; 256]
-    requires { ⌜ (at + n ≤ 784) × (n ≤ 256) ⌝ }
+fn table_at(tables: &[f64], at: usize, n: usize) -> [f64; 256]
+    requires { ⌜ (at + n ≤ length (now tables)) × (n ≤ 256) ⌝ }
     ensures { λ r. ⌜ r ≡ fillAt 0 (λ e. now (tables .entry) ! (at + e)) n (replicate 256 zero⁺) ⌝ }
 {
     let mut table = [0.0; 256];
-    for e in 0..n {
-        table[e] = tables[at + e];
-    }
+    number::copy(&tables[at..], n, &mut table, 0);
     table
 }
 
 // Its right-hand side, and its coefficients.
-fn part_at(parts: &[f64; 112], at: usize, n: usize) -> [f64; 16]
-    requires { ⌜ (at + n ≤ 112) × (n ≤ 16) ⌝ }
+fn part_at(parts: &[f64], at: usize, n: usize) -> [f64; 16]
+    requires { ⌜ (at + n ≤ length (now parts)) × (n ≤ 16) ⌝ }
     ensures { λ r. ⌜ r ≡ fillAt 0 (λ e. now (parts .entry) ! (at + e)) n (replicate 16 zero⁺) ⌝ }
 {
     let mut part = [0.0; 16];
-    for e in 0..n {
-        part[e] = parts[at + e];
-    }
+    number::copy(&parts[at..], n, &mut part, 0);
     part
 }
 
@@ -204,16 +200,6 @@ fn solve_block(
     let side = part_at(sides, b * order, order);
     let incumbent = part_at(ar, b * order, order);
     em_ridge::solve_or_keep(table, side, order, incumbent, 2)
-}
-
-// A block's coefficients, to their places.
-fn put(ar: &mut [f64; 112], at: usize, values: [f64; 16], n: usize)
-    requires { ⌜ (at + n ≤ 112) × (n ≤ 16) × (length (now ar) ≡ 112) ⌝ }
-    ensures { λ _. ⌜ now (ar .exit) ≡ fillAt at (λ l. values ! l) n (now (ar .entry)) ⌝ }
-{
-    for l in 0..n {
-        ar[at + l] = values[l];
-    }
 }
 
 // All blocks in order, up to the first that is refused.
@@ -238,7 +224,7 @@ fn solve_blocks(
             };
         }
         let values = update.values;
-        put(&mut ar, b * order, values, order);
+        number::copy(&values, order, &mut ar, b * order);
     }
     Blocks {
         check: Check::Passed,

@@ -1,6 +1,6 @@
 -- The blocks are solved in order, up to the first that is refused.
 use Prim.Native.Nat.{_+_, _*_, _-_, _<_, _≤_}
-use mathlib.Core.Path.{_≡_, _∙_}
+use mathlib.Core.Path.{_≡_, sym, _∙_}
 use native.Mathlib.Omega.{arith}
 use borrow.Author.Needs.{needs}
 use lib.ListN.{length}
@@ -40,25 +40,33 @@ returns c =
     let block = blockFrom (a .order) (a .tables .now) (a .sides .now) (a .old .now) in
     answers-refused (a .order) block (a .old .now) _ _ (at .loop .inv .2) (c .before .before .before .before .loop-test .taken) (c .before .before .before .solve-block .ensures) (c .before .check .given .1)
 
-mul-put : tie.Need-mul-put Inv-loop μ-loop
-mul-put c = omega (arith, inside (c .before .before .before .before .before))
+-- the coefficients are as many as they were
+long : (c : tie.At-loop Inv-loop μ-loop) → c .loop .b * start c .args .order + start c .args .order ≤ 112 → length (c .loop .ar) ≡ 112
+long c h = fill-long _ _ _ (c .loop .inv .3) (omega (arith, h, c .loop .inv .1)) ∙ c .loop .inv .1
 
-put-requires : tie.Need-put-requires Inv-loop μ-loop
-put-requires c κs =
-    let old = c .before .before .before .before .before .before .loop .inv .1 in
-    (inside (c .before .before .before .before .before), omega arith, fill-long _ _ _ (c .before .before .before .before .before .before .loop .inv .3) (omega (arith, inside (c .before .before .before .before .before), old)) ∙ old)
+slice-aggregate-copy : tie.Need-slice-aggregate-copy Inv-loop μ-loop
+slice-aggregate-copy c = search needs
+
+slice-aggregate-copy-2 : tie.Need-slice-aggregate-copy-2 Inv-loop μ-loop
+slice-aggregate-copy-2 c = sym (long (c .before .before .before .before .before .before .before) (inside (c .before .before .before .before .before .before)))
+
+mul-copy : tie.Need-mul-copy Inv-loop μ-loop
+mul-copy c = omega (arith, inside (c .before .before .before .before .before .before))
+
+copy-requires : tie.Need-copy-requires Inv-loop μ-loop
+copy-requires c κs = (omega (arith, start (c .before .before .before .before .before .before .before) .pre, sym (slice-aggregate-copy (c .before))), omega (arith, inside (c .before .before .before .before .before .before), long (c .before .before .before .before .before .before .before) (inside (c .before .before .before .before .before .before))))
 
 loop-again : tie.Need-loop-again Inv-loop μ-loop
 loop-again c =
-    let at = c .before .before .before .before .before .before .before in
+    let at = c .before .before .before .before .before .before .before .before .before in
     let a = start at .args in
     let block = blockFrom (a .order) (a .tables .now) (a .sides .now) (a .old .now) in
-    let solved = c .before .before .before .before .before .solve-block .ensures in
-    let room : at .loop .b * a .order + a .order ≤ length (a .old .now) = omega (arith, inside (c .before .before .before .before .before .before), at .loop .inv .1) in (
+    let solved = c .before .before .before .before .before .before .before .solve-block .ensures in
+    let room : at .loop .b * a .order + a .order ≤ length (a .old .now) = omega (arith, inside (c .before .before .before .before .before .before .before .before), at .loop .inv .1) in (
       omega arith,
       at .loop .inv .1,
-      each-more _ _ (at .loop .inv .2) (rw solved at (c .before .before .before .enum-told .given .1)),
-      answers-more (a .order) block (a .old .now) _ solved (at .loop .inv .3) room (c .put .ensures),
+      each-more _ _ (at .loop .inv .2) (rw solved at (c .before .before .before .before .before .enum-told .given .1)),
+      answers-more (a .order) block (a .old .now) _ solved (at .loop .inv .3) room (c .before .copy .ensures),
     )
 
 returns-2 : tie.Need-returns-2 Inv-loop μ-loop
@@ -80,8 +88,10 @@ solve-blocks-spec =
     (λ c. search needs)
     returns
     (λ c. search needs)
-    mul-put
-    put-requires
+    slice-aggregate-copy
+    slice-aggregate-copy-2
+    mul-copy
+    copy-requires
     (λ c. search needs)
     (λ c. search needs)
     loop-again
