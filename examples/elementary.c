@@ -1,7 +1,7 @@
 /* Calls the proved functions from C: for each number given, or for some of its own, its root, logarithm, exponential and
    normal log density, with 17 digits and with the bits.
 
-       gcc -Iinclude examples/elementary.c target/staticlib/libc_interface.a */
+       bin/firmware DIR && gcc -std=c99 -IDIR examples/elementary.c DIR/libmsar.a */
 #include "msar.h"
 
 #include <inttypes.h>

@@ -6,55 +6,60 @@
 
 #include <stdio.h>
 
-enum { REGIMES = 2, ORDER = 1, READINGS = 12, ROWS = READINGS - ORDER, WINDOWS = REGIMES * REGIMES };
+enum { SOUND, FAILING, REGIMES }; /* the labels, and how many they are */
+enum { ORDER = 1, READINGS = 12, ROWS = MSAR_ROWS(READINGS, ORDER), WINDOWS = MSAR_WINDOWS(REGIMES, ORDER) };
+enum { WORK = MSAR_WORK(ROWS, WINDOWS), TABLE = MSAR_TABLE(ROWS, REGIMES) };
 
-/* Where the parts of the parameters stand in numbers[400]. */
-enum { MEANS = 256, AR = 272, VARIANCES = 384 };
-
-/* All that the calls are lent: 3 * n * m numbers to work in, n * k for the table. */
-static double work[3 * ROWS * WINDOWS], table[ROWS * REGIMES], numbers[400];
+/* All that the calls are lent. */
+static double work[WORK], table[TABLE];
 
 /* Level heard less level sent, in dB, the newest reading last. */
 static double series[READINGS] = {0.1, -0.4, 0.3, 0.0, 0.5, -0.2, 0.1, -2.2, -3.1, -2.4, -3.6, -2.9};
 
-/* Label 0 is sound, label 1 fails; each has its own variance. */
-static void set_model(void) {
-    numbers[0] = 0.97; /* sound after sound */
-    numbers[1] = 0.05; /* sound after failing */
-    numbers[2] = 0.03;
-    numbers[3] = 0.95;
-    numbers[MEANS] = 0.0;
-    numbers[MEANS + 1] = -2.5;
-    numbers[AR] = 0.4; /* one block for both */
-    numbers[VARIANCES] = 0.25;
-    numbers[VARIANCES + 1] = 1.0;
-}
+/* One block of AR coefficients for both labels; each has its own variance. */
+static const size_t counts[MSAR_COUNTS] = {
+    [MSAR_COUNTS_MEANS] = REGIMES,
+    [MSAR_COUNTS_TRANSITION] = REGIMES * REGIMES,
+    [MSAR_COUNTS_BLOCKS] = 1,
+    [MSAR_COUNTS_ORDER] = ORDER,
+    [MSAR_COUNTS_AR] = ORDER, /* times the blocks */
+    [MSAR_COUNTS_VARIANCES] = REGIMES,
+};
+static const double numbers[MSAR_NUMBERS] = {
+    [MSAR_TRANSITION_AT(REGIMES, SOUND, SOUND)] = 0.97,
+    [MSAR_TRANSITION_AT(REGIMES, SOUND, FAILING)] = 0.05, /* sound now, failing before */
+    [MSAR_TRANSITION_AT(REGIMES, FAILING, SOUND)] = 0.03,
+    [MSAR_TRANSITION_AT(REGIMES, FAILING, FAILING)] = 0.95,
+    [MSAR_MEANS + SOUND] = 0.0,
+    [MSAR_MEANS + FAILING] = -2.5,
+    [MSAR_AR_AT(ORDER, 0, 1)] = 0.4,
+    [MSAR_VARIANCES + SOUND] = 0.25,
+    [MSAR_VARIANCES + FAILING] = 1.0,
+};
 
 /* Filters the series with this much of the work memory, and reports the newest row or the refusal. */
-static int report(size_t work_len) {
-    static const size_t counts[6] = {REGIMES, REGIMES * REGIMES, 1, ORDER, ORDER, REGIMES};
-    const double *last = table + (ROWS - 1) * REGIMES;
-    size_t whole[4];
-    double real[2];
+static enum msar_refusal report(size_t work_len) {
+    size_t whole[MSAR_WHOLE];
+    double real[MSAR_REAL];
 
-    msar_filter(REGIMES, ORDER, false, true, series, READINGS, counts, numbers, work, work_len, table, ROWS * REGIMES, whole,
-                real);
-    if (whole[0] != 0) {
-        printf("refusal %zu, place %zu, value %g\n", whole[0], whole[1], real[0]);
-        return 1;
-    }
-    printf("reading %d: sound %.6f, failing %.6f\n", READINGS - 1, last[0], last[1]);
-    return 0;
+    msar_filter(REGIMES, ORDER, false, true, series, READINGS, counts, numbers, work, work_len, table, TABLE,
+                whole, real);
+    if (whole[MSAR_WHOLE_REFUSAL] == MSAR_ANSWERED)
+        printf("reading %d: sound %.6f, failing %.6f\n", READINGS - 1, table[MSAR_TABLE_AT(REGIMES, ROWS - 1, SOUND)],
+               table[MSAR_TABLE_AT(REGIMES, ROWS - 1, FAILING)]);
+    else
+        printf("refusal %zu, place %zu, value %g\n", whole[MSAR_WHOLE_REFUSAL], whole[MSAR_WHOLE_PLACE],
+               real[MSAR_REAL_VALUE]);
+    return (enum msar_refusal)whole[MSAR_WHOLE_REFUSAL];
 }
 
 int main(void) {
-    set_model();
-    if (report(sizeof work / sizeof *work) != 0)
+    if (report(WORK) != MSAR_ANSWERED)
         return 1;
     /* too little memory: the call says how much it needs, and touches nothing */
-    if (report(0) == 0)
+    if (report(0) != MSAR_SHORT_MEMORY)
         return 1;
     /* a reading that is no number: the call says which */
     series[4] = 0.0 / (series[3] - series[3]);
-    return report(sizeof work / sizeof *work) == 0;
+    return report(WORK) != MSAR_BAD_READING;
 }

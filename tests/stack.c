@@ -10,15 +10,15 @@
 #include <sys/mman.h>
 #include "msar.h"
 
-enum { LIMIT = 64 * 1024, ALLOWANCE = 16 * 1024, PAGE = 4096, PAINT = 0xA5, READINGS = 4096 };
+enum { LIMIT = 64 * 1024, ALLOWANCE = 16 * 1024, PAGE = 4096, PAINT = 0xA5, READINGS = MSAR_MOST_READINGS };
 
 struct job {
     size_t k, order;
     bool switching_ar;
     double *series, *work, *filtered, *smoothed;
     size_t work_len, table_len;
-    size_t counts[6], whole[4];
-    double numbers[400], fitted[400], real[2];
+    size_t counts[MSAR_COUNTS], whole[MSAR_WHOLE];
+    double numbers[MSAR_NUMBERS], fitted[MSAR_NUMBERS], real[MSAR_REAL];
 };
 
 static void *nothing(void *given)
@@ -98,28 +98,27 @@ static void *lent(size_t count)
 static struct job job(size_t k, size_t order, bool switching_ar)
 {
     struct job j = {.k = k, .order = order, .switching_ar = switching_ar};
-    size_t rows = READINGS - order, windows = k, blocks = switching_ar ? k : 1, i;
+    size_t rows = MSAR_ROWS(READINGS, order), blocks = switching_ar ? k : 1, i, b, lag;
 
-    for (i = 0; i < order; i++)
-        windows *= k;
-    j.work_len = 3 * rows * windows;
-    j.table_len = rows * k;
+    j.work_len = MSAR_WORK(rows, MSAR_WINDOWS(k, order));
+    j.table_len = MSAR_TABLE(rows, k);
     j.series = lent(READINGS);
     j.work = lent(j.work_len);
     j.filtered = lent(j.table_len);
     j.smoothed = lent(j.table_len);
     for (i = 0; i < READINGS; i++)
         j.series[i] = (double)(i * 2654435761u % 1000) / 250.0 - 2.0;
-    j.counts[0] = k, j.counts[1] = k * k, j.counts[2] = blocks, j.counts[3] = order;
-    j.counts[4] = blocks * order, j.counts[5] = k;
-    for (i = 0; i < k * k; i++)
-        j.numbers[i] = i / k == i % k ? 0.75 : 0.25 / (double)(k - 1);
+    j.counts[MSAR_COUNTS_MEANS] = k, j.counts[MSAR_COUNTS_TRANSITION] = k * k, j.counts[MSAR_COUNTS_BLOCKS] = blocks;
+    j.counts[MSAR_COUNTS_ORDER] = order, j.counts[MSAR_COUNTS_AR] = blocks * order, j.counts[MSAR_COUNTS_VARIANCES] = k;
     for (i = 0; i < k; i++) {
-        j.numbers[256 + i] = (double)i / (double)k;
-        j.numbers[384 + i] = 1.0 + 0.125 * (double)i;
+        for (b = 0; b < k; b++)
+            j.numbers[MSAR_TRANSITION_AT(k, i, b)] = i == b ? 0.75 : 0.25 / (double)(k - 1);
+        j.numbers[MSAR_MEANS + i] = (double)i / (double)k;
+        j.numbers[MSAR_VARIANCES + i] = 1.0 + 0.125 * (double)i;
     }
-    for (i = 0; i < blocks * order; i++)
-        j.numbers[272 + i] = 0.125;
+    for (b = 0; b < blocks; b++)
+        for (lag = 1; lag <= order; lag++)
+            j.numbers[MSAR_AR_AT(order, b, lag)] = 0.125;
     return j;
 }
 
@@ -128,7 +127,8 @@ int main(void)
     static const struct {
         size_t k, order;
         bool switching_ar;
-    } sizes[] = {{2, 0, false}, {2, 7, false}, {4, 3, false}, {16, 1, false}, {2, 7, true}, {4, 3, true}, {16, 1, true}};
+    } sizes[] = {{2, 0, false}, {2, MSAR_MOST_ORDER, false}, {4, 3, false}, {MSAR_MOST_REGIMES, 1, false},
+                 {2, MSAR_MOST_ORDER, true}, {4, 3, true}, {MSAR_MOST_REGIMES, 1, true}};
     static void *(*const calls[])(void *) = {loglike, filter, smooth, fit};
     static const char *const names[] = {"loglike", "filter", "smooth", "fit"};
     size_t own = depth(nothing, NULL), deepest[2] = {0, 0}, s, c;
@@ -137,8 +137,8 @@ int main(void)
         struct job j = job(sizes[s].k, sizes[s].order, sizes[s].switching_ar);
         for (c = 0; c < sizeof calls / sizeof *calls; c++) {
             size_t used = depth(calls[c], &j) - own;
-            /* a fit of order 0 is refused with 24 */
-            if (j.whole[0] != (calls[c] == fit && j.order == 0 ? 24 : 0))
+            /* a fit of order 0 is refused */
+            if (j.whole[MSAR_WHOLE_REFUSAL] != (calls[c] == fit && j.order == 0 ? MSAR_ORDER_ZERO : MSAR_ANSWERED))
                 stop("a call refused");
             printf("stack: %s, k = %zu, order %zu, %s coefficients, %d readings: %zu bytes\n", names[c], j.k, j.order,
                    j.switching_ar ? "switching" : "shared", READINGS, used);
