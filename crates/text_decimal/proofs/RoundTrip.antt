@@ -26,7 +26,7 @@ use Rattle.text_decimal_write.specs.declared.Decimal.{Decimal}
 use Rattle.text_decimal_grammar.specs.declared.State.{State}
 use Rattle.text_decimal_grammar.specs.Grammar.{nothing, step, stepAt, digitOf, moved, minus, wholeDigit, fractionDigit, exponentDigit, mark, afterSign, atStart, inWhole, afterZero, inFraction, inExponent, afterMark, inWord}
 use Rattle.text_decimal_read.specs.Text.{numberOf, readOf, scan, finishAt}
-use Rattle.text_decimal_write.specs.Decimals.{over, under, tens, decimalOf, digitsText, exponentText, decimalText, unitsText, signText, textOf, written, writtenOf}
+use Rattle.text_decimal_write.specs.Decimals.{over, under, tens, decimalOf, unitsDecimal, digitsText, exponentText, decimalText, unitsText, signText, textOf, written, writtenOf}
 use Rattle.text_decimal_write.specs.Room.{guessOf}
 use Rattle.text_limbs.proofs.Tens.{ten-pos}
 use Rattle.text_decimal_write.proofs.First.{under-pos, reach-next, tens-are, Guessed, guessed}
@@ -132,15 +132,15 @@ unfolding fits
 zero-fits s = tt
 
 units-back : (x : Float) (s : Bool) (m g u : ℕ) → T (fits binary64 x) → HasValue x s u (2 ^ 1074) → u ≡ m * 2 ^ g → m < 2 ^ 53 → u < 2 ^ 2098 → readOf (signText s ++ unitsText u) ≡ Number x
-unfolding unitsText
+unfolding unitsText unitsDecimal
 units-back x s m g u f v e M l = elim (eq-zero-or-pos u) [
   | inl z ↦
-      ap (λ (b : Bool). readOf (signText s ++ cond b (decimalText (record { digits = 0; tens = 324 })) (decimalText (decimalOf u)))) (eq-eqb u 0 z)
+      ap (λ (b : Bool). readOf (signText s ++ decimalText (cond b (record { digits = 0; tens = 324 }) (decimalOf u)))) (eq-eqb u 0 z)
       ∙ zero-back s
       ∙ ap Number (same-value (fin s 0 (pos 0)) x s 0 (zero-fits s) f (zero-value s) (subst (λ (n : ℕ). HasValue x s n (2 ^ 1074)) z v))
   | inr p ↦
       let d = seventeen u p l in
-      ap (λ (b : Bool). readOf (signText s ++ cond b (decimalText (record { digits = 0; tens = 324 })) (decimalText (decimalOf u)))) (ne-eqb u 0 (λ (z : u ≡ 0). not-zero u p z))
+      ap (λ (b : Bool). readOf (signText s ++ decimalText (cond b (record { digits = 0; tens = 324 }) (decimalOf u)))) (ne-eqb u 0 (λ (z : u ≡ 0). not-zero u p z))
       ∙ text-back s (decimalOf u) (d .least) (d .most) (d .few)
       ∙ ap Number
       (same-value (numberOf (st Exponent s (decimalOf u .digits) 16 (below (decimalOf u .tens)) (sizeOf (decimalOf u .tens)))) x s u

@@ -3,7 +3,9 @@ use mathlib.Core.Path.{_≡_, refl, sym, ap, _∙_, subst}
 use mathlib.Core.Bool.{Bool, cond}
 use mathlib.Core.List.{List, [], _∷_, _++_, append-assoc}
 use Prim.Native.Nat.{ℕ, suc, _+_, _-_, _/_, _%_, _^_, _≤_, _<_}
+use native.Mathlib.Nat.{div-div-eq-div-mul}
 use native.Mathlib.Omega.{arith}
+use lib.Pow.{pow-add}
 use lib.ListN.{length, replicate, set, length-append}
 use lib.Seq.{set-append-seam, append-snoc}
 use borrow.Author.Tests.{lt-ltb, le-ltb}
@@ -43,44 +45,49 @@ push-one w t c e h = ap (λ (z : Written). pushed z c) e ∙ pushed-written t c 
 
 -- ---- digits
 
+pub cut-twice : (v n p : ℕ) → 16 < n → p ≡ 10 ^ (n - 16) → v / 10 ^ 16 / p ≡ v / 10 ^ n
+cut-twice v n p h e =
+    ap (λ (z : ℕ). v / 10 ^ 16 / z) e ∙ div-div-eq-div-mul v (10 ^ 16) (10 ^ (n - 16)) ∙ ap (λ (z : ℕ). v / z) (sym (pow-add 10 16 (n - 16)) ∙ ap (λ (z : ℕ). 10 ^ z) (back n h))
+  where
+    back : (n : ℕ) → 16 < n → 16 + (n - 16) ≡ n
+    back n h = omega arith
+
 -- of n digits of v those but the last `left` are put
 pub record Put (w out : Written) (v n left : ℕ) : Type 0 where
   pub most : left ≤ n
-  pub small : n < 17
   pub room : w .length + n ≤ 32
   pub long : out .length + left ≡ w .length + n
   pub is : (t : List ℕ) → w ≡ written t → (d : List ℕ) × (out ≡ written (t ++ d)) × (d ++ digitsText left v ≡ digitsText n v)
 
-pub put-first : (w : Written) (v n : ℕ) → w .length + n ≤ 32 → n < 17 → Put w w v n n
-put-first w v n h k =
-    record { most = omega arith; small = k; room = h; long = refl; is = λ t e. ([], e ∙ ap written (sym (nothing t)), refl) }
+pub put-first : (w : Written) (v n : ℕ) → w .length + n ≤ 32 → Put w w v n n
+put-first w v n h =
+    record { most = omega arith; room = h; long = refl; is = λ t e. ([], e ∙ ap written (sym (nothing t)), refl) }
   where
     nothing : (t : List ℕ) → t ++ [] ≡ t
     nothing [] = refl
     nothing (x ∷ t) = ap (λ (z : List ℕ). x ∷ z) (nothing t)
 
-pub put-next : (w out r : Written) (v n left p : ℕ) → Put w out v n left → 0 < left → p ≡ 10 ^ (left - 1) → r .length ≡ out .length + 1
-    → ((t : List ℕ) → out ≡ written t → r ≡ written (t ++ (48 + v / p % 10) ∷ [])) → Put w r v n (left - 1)
-put-next w out r v n left p h k e l f =
+pub put-next : (w out r : Written) (v n left q : ℕ) → Put w out v n left → 0 < left → q ≡ v / 10 ^ (left - 1) → r .length ≡ out .length + 1
+    → ((t : List ℕ) → out ≡ written t → r ≡ written (t ++ (48 + q % 10) ∷ [])) → Put w r v n (left - 1)
+put-next w out r v n left q h k e l f =
     record {
       most = (omega (arith, h .most));
-      small = h .small;
       room = h .room;
       long = (omega (arith, h .long, l));
       is =
           (λ t g.
           let i = h .is t g in
           let d : List ℕ = i .0 in
-          let c : ℕ = 48 + v / p % 10 in (
+          let c : ℕ = 48 + q % 10 in (
             d ++ c ∷ [],
             f (t ++ d) (i .1) ∙ ap written (append-assoc t d (c ∷ [])),
-            append-assoc d (c ∷ []) (digitsText (left - 1) v) ∙ ap (λ (z : List ℕ). d ++ z) (sym (head left p k e)) ∙ i .2,
+            append-assoc d (c ∷ []) (digitsText (left - 1) v) ∙ ap (λ (z : List ℕ). d ++ z) (sym (head left q k e)) ∙ i .2,
           ));
     }
   where
-    head : (left p : ℕ) → 0 < left → p ≡ 10 ^ (left - 1) → digitsText left v ≡ (48 + v / p % 10) ∷ digitsText (left - 1) v
-    head left p k e =
-        ap (λ (z : ℕ). digitsText z v) (back left k) ∙ first (left - 1) ∙ ap (λ (z : ℕ). (48 + v / z % 10) ∷ digitsText (left - 1) v) (sym e)
+    head : (left q : ℕ) → 0 < left → q ≡ v / 10 ^ (left - 1) → digitsText left v ≡ (48 + q % 10) ∷ digitsText (left - 1) v
+    head left q k e =
+        ap (λ (z : ℕ). digitsText z v) (back left k) ∙ first (left - 1) ∙ ap (λ (z : ℕ). (48 + z % 10) ∷ digitsText (left - 1) v) (sym e)
       where
         back : (n : ℕ) → 0 < n → n ≡ suc (n - 1)
         back n k = omega arith
@@ -131,9 +138,13 @@ decimal-joined t d = go t (digitsText 1 (d .digits / 10 ^ 16)) (digitsText 16 (d
 
 -- ---- for whoever writes the text on: its length is within the bytes
 
-pub written-part : (x : Float) (w : Written) → w ≡ writtenOf x → w .length ≤ length (w .bytes)
-unfolding writtenOf written
-written-part x w e = subst (λ (z : Written). z .length ≤ length (z .bytes)) (sym e) (within (textOf x) (replicate (32 - length (textOf x)) 0))
+pub written-within : (t : List ℕ) (w : Written) → w ≡ written t → w .length ≤ length (w .bytes)
+unfolding written
+written-within t w e = subst (λ (z : Written). z .length ≤ length (z .bytes)) (sym e) (within t (replicate (32 - length t) 0))
   where
     within : (s t : List ℕ) → length s ≤ length (s ++ t)
     within s t = omega (arith, length-append s t)
+
+pub written-part : (x : Float) (w : Written) → w ≡ writtenOf x → w .length ≤ length (w .bytes)
+unfolding writtenOf
+written-part x w e = written-within (textOf x) w e

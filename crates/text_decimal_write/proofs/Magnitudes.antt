@@ -20,7 +20,7 @@ use Rattle.rounding.specs.Units.{inUnits}
 use Rattle.rounding.proofs.Choose.{le-or-lt}
 use Rattle.rounding.proofs.Pattern.{unitsAt, bits-value-signed, finite-bits, mod-63}
 use Rattle.text_decimal_write.specs.declared.Decimal.{Decimal}
-use Rattle.text_decimal_write.specs.Decimals.{over, under, reaches, largest, tens, decimalOf, decimalText, unitsText, signText, textOf}
+use Rattle.text_decimal_write.specs.Decimals.{over, under, reaches, largest, tens, decimalOf, unitsDecimal, decimalText, unitsText, signText, textOf}
 use Rattle.text_decimal_write.specs.Room.{unitsOf, magnitudeText}
 
 -- ---- tens are few
@@ -45,39 +45,38 @@ tens-few u d e =
 
 -- ---- the three kinds of a finite pattern
 
-some-text : (u : ℕ) → 0 < u → unitsText u ≡ decimalText (decimalOf u)
-unfolding unitsText
-some-text u h =
-    ap (λ (b : Bool). cond b (decimalText (record { digits = 0; tens = 324 })) (decimalText (decimalOf u))) (ne-eqb u 0 (λ (e : u ≡ 0). omega arith))
+some-decimal : (u : ℕ) → 0 < u → unitsDecimal u ≡ decimalOf u
+unfolding unitsDecimal
+some-decimal u h = ap (λ (b : Bool). cond b (record { digits = 0; tens = 324 }) (decimalOf u)) (ne-eqb u 0 (λ (e : u ≡ 0). omega arith))
 
-pub zero-text : (b : ℕ) → b ≡ 0 → decimalText (record { digits = 0; tens = 324 }) ≡ unitsText (unitsOf b)
-unfolding unitsText unitsOf
-zero-text b e = sym (ap (λ (z : ℕ). unitsText (unitsOf z)) e)
+pub zero-decimal : (b : ℕ) → b ≡ 0 → record { digits = 0; tens = 324 } ≡ unitsDecimal (unitsOf b)
+unfolding unitsDecimal unitsOf
+zero-decimal b e = sym (ap (λ (z : ℕ). unitsDecimal (unitsOf z)) e)
 
-pub small-text : (b : ℕ) → (b ≡ 0 → ⊥) → b < 2 ^ 52 → decimalText (decimalOf (b * 2 ^ 0)) ≡ unitsText (unitsOf b)
+pub small-decimal : (b : ℕ) → (b ≡ 0 → ⊥) → b < 2 ^ 52 → decimalOf (b * 2 ^ 0) ≡ unitsDecimal (unitsOf b)
 unfolding unitsOf
-small-text b z h =
-    ap (λ (n : ℕ). decimalText (decimalOf n)) (mul-one b)
-    ∙ sym (ap unitsText (ap (λ (t : Bool). cond t b ((2 ^ 52 + b % 2 ^ 52) * 2 ^ (b / 2 ^ 52 - 1))) (lt-ltb b (2 ^ 52) h)) ∙ some-text b (some b z))
+small-decimal b z h =
+    ap decimalOf (mul-one b)
+    ∙ sym (ap unitsDecimal (ap (λ (t : Bool). cond t b ((2 ^ 52 + b % 2 ^ 52) * 2 ^ (b / 2 ^ 52 - 1))) (lt-ltb b (2 ^ 52) h)) ∙ some-decimal b (some b z))
   where
     some : (b : ℕ) → (b ≡ 0 → ⊥) → 0 < b
     some zero z = absurd (z refl)
     some (suc b) z = omega arith
 
-pub large-text : (b : ℕ) → 2 ^ 52 ≤ b → decimalText (decimalOf ((2 ^ 52 + b % 2 ^ 52) * 2 ^ (b / 2 ^ 52 - 1))) ≡ unitsText (unitsOf b)
+pub large-decimal : (b : ℕ) → 2 ^ 52 ≤ b → decimalOf ((2 ^ 52 + b % 2 ^ 52) * 2 ^ (b / 2 ^ 52 - 1)) ≡ unitsDecimal (unitsOf b)
 unfolding unitsOf
-large-text b h =
+large-decimal b h =
     sym
-    (ap unitsText (ap (λ (t : Bool). cond t b ((2 ^ 52 + b % 2 ^ 52) * 2 ^ (b / 2 ^ 52 - 1))) (le-ltb b (2 ^ 52) h))
-    ∙ some-text ((2 ^ 52 + b % 2 ^ 52) * 2 ^ (b / 2 ^ 52 - 1)) (mul-pos (some b) (pow-pos (b / 2 ^ 52 - 1))))
+    (ap unitsDecimal (ap (λ (t : Bool). cond t b ((2 ^ 52 + b % 2 ^ 52) * 2 ^ (b / 2 ^ 52 - 1))) (le-ltb b (2 ^ 52) h))
+    ∙ some-decimal ((2 ^ 52 + b % 2 ^ 52) * 2 ^ (b / 2 ^ 52 - 1)) (mul-pos (some b) (pow-pos (b / 2 ^ 52 - 1))))
   where
     some : (b : ℕ) → 0 < 2 ^ 52 + b % 2 ^ 52
     some b = omega arith
 
 -- ---- a magnitude
 
-pub finite-text : (b : ℕ) → b < 0x7ff0_0000_0000_0000 → unitsText (unitsOf b) ≡ magnitudeText b
-unfolding magnitudeText
+pub finite-text : (b : ℕ) → b < 0x7ff0_0000_0000_0000 → decimalText (unitsDecimal (unitsOf b)) ≡ magnitudeText b
+unfolding magnitudeText unitsText
 finite-text b h = sym (ap (λ (t : Bool). cond t (unitsText (unitsOf b)) (105 ∷ 110 ∷ 102 ∷ [])) (lt-ltb b 0x7ff0_0000_0000_0000 h))
 
 pub infinite-text : (b : ℕ) → 0x7ff0_0000_0000_0000 ≤ b → 105 ∷ 110 ∷ 102 ∷ [] ≡ magnitudeText b
@@ -129,11 +128,11 @@ parts s m e b f q =
 
 -- ---- the text of a number, by its pattern
 
-nan-magnitude : (b : ℕ) → b ≡ toBits binary64 nan → 0x7ff0_0000_0000_0000 < b % 2 ^ 63
+pub nan-magnitude : (b : ℕ) → b ≡ toBits binary64 nan → 0x7ff0_0000_0000_0000 < b % 2 ^ 63
 unfolding toBits
 nan-magnitude b e = subst (λ (z : ℕ). 0x7ff0_0000_0000_0000 < z % 2 ^ 63) (sym e) (lit< tt)
 
-inf-magnitude : (s : Bool) (b : ℕ) → b ≡ toBits binary64 (inf s) → (b % 2 ^ 63 ≡ 0x7ff0_0000_0000_0000) × (leb (2 ^ 63) b ≡ s)
+pub inf-magnitude : (s : Bool) (b : ℕ) → b ≡ toBits binary64 (inf s) → (b % 2 ^ 63 ≡ 0x7ff0_0000_0000_0000) × (leb (2 ^ 63) b ≡ s)
 unfolding toBits
 inf-magnitude true b e = (ap (λ (z : ℕ). z % 2 ^ 63) e, ap (leb (2 ^ 63)) e)
 inf-magnitude false b e = (ap (λ (z : ℕ). z % 2 ^ 63) e, ap (leb (2 ^ 63)) e)
@@ -151,7 +150,7 @@ nan-text (fin s m y) b f e h = absurd (no (b % 2 ^ 63) (parts s m y b f e .below
     no m e h = omega arith
 
 pub number-text : (x : Float) (b : ℕ) → T (fits binary64 x) → b ≡ toBits binary64 x → b % 2 ^ 63 ≤ 0x7ff0_0000_0000_0000 → signText (leb (2 ^ 63) b) ++ magnitudeText (b % 2 ^ 63) ≡ textOf x
-unfolding textOf
+unfolding textOf unitsText
 number-text nan b f e h = absurd (not-le-of-lt (nan-magnitude b e) h)
 number-text (inf s) b f e h =
     let i = inf-magnitude s b e in

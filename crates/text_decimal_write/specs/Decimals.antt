@@ -43,6 +43,11 @@ unfoldable pub decimalOf : ℕ → Decimal
 unfolding tens
 decimalOf u = settled (closest (over u (tens u)) (under (tens u))) (tens u)
 
+-- that of any number of units: zero has no first digit, and its weight is taken to be 1
+unfoldable pub unitsDecimal : ℕ → Decimal
+unfolding decimalOf
+unitsDecimal u = if u =? 0 then record { digits = 0; tens = 324 } else decimalOf u
+
 -- ---- its text
 
 -- n digits of v, the highest first; `0` is 48
@@ -60,8 +65,8 @@ unfolding digitsText exponentText
 decimalText d = digitsText 1 (d .digits / 10 ^ 16) ++ 46 ∷ digitsText 16 (d .digits % 10 ^ 16) ++ exponentText (d .tens)
 
 unfoldable pub unitsText : ℕ → List ℕ
-unfolding decimalText decimalOf
-unitsText u = if u =? 0 then decimalText (record { digits = 0; tens = 324 }) else decimalText (decimalOf u)
+unfolding decimalText unitsDecimal
+unitsText u = decimalText (unitsDecimal u)
 
 abbrev pub signText : Bool → List ℕ
 signText true = 45 ∷ []

@@ -1,4 +1,4 @@
--- What the functions of this crate hand to each other. No other crate's contract cites it.
+-- What the functions of this crate hand to each other. `unitsOf` also serves crates/text_decimal_short; no other crate's contract cites it.
 use Prim.Native.Nat.{ℕ, _+_, _-_, _*_, _/_, _%_, _^_}
 use mathlib.Core.List.{List, [], _∷_}
 use Rattle.number.specs.Number.{if_then_else_, _<?_}

@@ -7,7 +7,7 @@ ghost use lib.Ieee.{Float, binary64, fits, toBits};
 ghost use lib.Ieee.Nearest.{closest};
 ghost use Rattle.text_limbs.specs.Remains.{CutBy};
 ghost use Rattle.text_limbs.specs.Limbs.{value, Limbs};
-ghost use Rattle.text_decimal_write.specs.Decimals.{settled, decimalOf, digitsText, exponentText, decimalText, unitsText, textOf, written, writtenOf};
+ghost use Rattle.text_decimal_write.specs.Decimals.{settled, decimalOf, unitsDecimal, digitsText, exponentText, decimalText, textOf, written, writtenOf};
 ghost use Rattle.text_decimal_write.specs.Room.{guessOf, unitsOf, magnitudeText};
 
 // digits * 10 ^ (tens - 340)
@@ -77,7 +77,27 @@ fn decimal_of(sig: u64, place: usize) -> Decimal
     nearest(&l, rest | (r != 0), t + 1)
 }
 
-fn push(w: Written, c: u8) -> Written
+// The decimal of a finite magnitude, by its pattern b.
+pub fn of_magnitude(b: u64) -> Decimal
+    requires { ⌜ b < 0x7ff0_0000_0000_0000 ⌝ }
+    ensures { λ r. ⌜ (r ≡ unitsDecimal (unitsOf b)) × (r .tens < 1000) ⌝ }
+{
+    if b == 0 {
+        return Decimal {
+            digits: 0,
+            tens: 324,
+        };
+    }
+    if b < 0x10_0000_0000_0000 {
+        return decimal_of(b, 0);
+    }
+    let sig = 0x10_0000_0000_0000 + b % 0x10_0000_0000_0000;
+    let place = (b / 0x10_0000_0000_0000 - 1) as usize;
+    decimal_of(sig, place)
+}
+
+// The text, and one byte more.
+pub fn push(w: Written, c: u8) -> Written
     requires { ⌜ w .length < 32 ⌝ }
     ensures { λ r. ⌜ (r .length ≡ w .length + 1) × ((t : List ℕ) → w ≡ written t → r ≡ written (t ++ c ∷ [])) ⌝ }
 {
@@ -90,16 +110,27 @@ fn push(w: Written, c: u8) -> Written
     }
 }
 
+// v / 10 ^ n, cut to a whole number
+pub fn cut(v: u64, n: usize) -> u64
+    requires { ⌜ n ≤ 32 ⌝ }
+    ensures { λ r. ⌜ r ≡ v / 10 ^ n ⌝ }
+{
+    if n <= 16 {
+        return v / text_limbs::ten::power(n);
+    }
+    v / 10_000_000_000_000_000 / text_limbs::ten::power(n - 16)
+}
+
 // n digits of v
-fn push_digits(w: Written, v: u64, n: usize) -> Written
-    requires { ⌜ (w .length + n ≤ 32) × (n < 17) ⌝ }
+pub fn push_digits(w: Written, v: u64, n: usize) -> Written
+    requires { ⌜ w .length + n ≤ 32 ⌝ }
     ensures { λ r. ⌜ (r .length ≡ w .length + n) × ((t : List ℕ) → w ≡ written t → r ≡ written (t ++ digitsText n v)) ⌝ }
 {
     let mut out = w;
     let mut left = n;
     while left > 0 {
         left -= 1;
-        let d = v / text_limbs::ten::power(left) % 10;
+        let d = cut(v, left) % 10;
         out = push(out, b'0' + d as u8);
     }
     out
@@ -125,41 +156,19 @@ fn push_decimal(w: Written, d: Decimal) -> Written
     push_exponent(all, d.tens)
 }
 
-// The magnitude's pattern is b.
-fn push_finite(w: Written, b: u64) -> Written
-    requires { ⌜ (w .length ≤ 1) × (b < 0x7ff0_0000_0000_0000) ⌝ }
-    ensures { λ r. ⌜ ((t : List ℕ) → w ≡ written t → r ≡ written (t ++ unitsText (unitsOf b))) ⌝ }
-{
-    if b == 0 {
-        return push_decimal(
-            w,
-            Decimal {
-                digits: 0,
-                tens: 324,
-            },
-        );
-    }
-    if b < 0x10_0000_0000_0000 {
-        return push_decimal(w, decimal_of(b, 0));
-    }
-    let sig = 0x10_0000_0000_0000 + b % 0x10_0000_0000_0000;
-    let place = (b / 0x10_0000_0000_0000 - 1) as usize;
-    push_decimal(w, decimal_of(sig, place))
-}
-
-// inf, or the decimal
+// inf, or the decimal, of the magnitude's pattern b
 fn push_magnitude(w: Written, b: u64) -> Written
     requires { ⌜ (w .length ≤ 1) × (b ≤ 0x7ff0_0000_0000_0000) ⌝ }
     ensures { λ r. ⌜ ((t : List ℕ) → w ≡ written t → r ≡ written (t ++ magnitudeText b)) ⌝ }
 {
     if b < 0x7ff0_0000_0000_0000 {
-        return push_finite(w, b);
+        return push_decimal(w, of_magnitude(b));
     }
     push(push(push(w, b'i'), b'n'), b'f')
 }
 
 // No byte yet
-fn empty() -> Written
+pub fn empty() -> Written
     ensures { λ r. ⌜ r ≡ written [] ⌝ }
 {
     Written {

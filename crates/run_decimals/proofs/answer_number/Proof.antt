@@ -19,6 +19,4 @@ answer-number-spec =
     part-write-all-end
     (λ c κs. search needs)
     (λ c. search needs)
-    (λ c κs. search needs)
-    (λ c. search needs)
     (λ c. search needs))

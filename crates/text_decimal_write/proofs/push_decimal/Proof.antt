@@ -7,13 +7,13 @@ use Rattle.text_decimal_write.specs.Decimals.{written}
 use Rattle.text_decimal_write.proofs.Bytes.{decimal-joined}
 
 push-digits-requires : tie.Need-push-digits-requires
-push-digits-requires c κs = (omega (arith, c .before .pre .0), omega arith)
+push-digits-requires c κs = omega (arith, c .before .pre .0)
 
 push-requires : tie.Need-push-requires
 push-requires c κs = omega (arith, c .push-digits .ensures .0, c .before .before .pre .0)
 
 push-digits-requires-2 : tie.Need-push-digits-requires-2
-push-digits-requires-2 c κs = (omega (arith, c .before .push .ensures .0, c .before .before .push-digits .ensures .0, c .before .before .before .before .pre .0), omega arith)
+push-digits-requires-2 c κs = omega (arith, c .before .push .ensures .0, c .before .before .push-digits .ensures .0, c .before .before .before .before .pre .0)
 
 push-exponent-requires : tie.Need-push-exponent-requires
 push-exponent-requires c κs = (omega (arith, c .push-digits2 .ensures .0, c .before .before .push .ensures .0, c .before .before .before .push-digits .ensures .0, c .before .before .before .before .before .pre .0), c .before .before .before .before .before .pre .1)

@@ -14,7 +14,7 @@ push-requires-2 : tie.Need-push-requires-2
 push-requires-2 c κs = omega (arith, c .before .push .ensures .0, c .before .before .pre .0)
 
 push-digits-requires : tie.Need-push-digits-requires
-push-digits-requires c κs = (omega (arith, c .before .before .push .ensures .0, c .push2 .ensures .0, c .before .before .before .pre .0), omega arith)
+push-digits-requires c κs = omega (arith, c .before .before .push .ensures .0, c .push2 .ensures .0, c .before .before .before .pre .0)
 
 returns : tie.Need-returns
 returns c = λ t e.
@@ -24,7 +24,7 @@ push-requires-3 : tie.Need-push-requires-3
 push-requires-3 c κs = omega (arith, c .before .push .ensures .0, c .before .before .pre .0)
 
 push-digits-requires-2 : tie.Need-push-digits-requires-2
-push-digits-requires-2 c κs = (omega (arith, c .before .before .push .ensures .0, c .push3 .ensures .0, c .before .before .before .pre .0), omega arith)
+push-digits-requires-2 c κs = omega (arith, c .before .before .push .ensures .0, c .push3 .ensures .0, c .before .before .before .pre .0)
 
 returns-2 : tie.Need-returns-2
 returns-2 c = λ t e.

@@ -5,15 +5,16 @@ use mathlib.Core.List.{List, [], _∷_, _++_}
 use native.Mathlib.Omega.{arith}
 use Rattle.text_decimal_write.proofs.push_magnitude.Statement.{statement}
 use Rattle.text_decimal_write.proofs.push_magnitude.Tie as tie
-use Rattle.text_decimal_write.specs.Decimals.{written}
+use Rattle.text_decimal_write.specs.Decimals.{written, decimalText}
 use Rattle.text_decimal_write.proofs.Bytes.{three}
 use Rattle.text_decimal_write.proofs.Magnitudes.{finite-text, infinite-text}
 
-push-finite-requires : tie.Need-push-finite-requires
-push-finite-requires c κs = (c .before .pre .0, c .if1 .taken)
+push-decimal-requires : tie.Need-push-decimal-requires
+push-decimal-requires c κs = (c .before .before .pre .0, c .of-magnitude .ensures .1)
 
 returns : tie.Need-returns
-returns c = λ t e. c .push-finite .ensures t e ∙ ap (λ (z : List ℕ). written (t ++ z)) (finite-text (c .before .before .args .b) (c .before .if1 .taken))
+returns c = λ t e.
+    c .push-decimal .ensures t e ∙ ap (λ (z : List ℕ). written (t ++ z)) (ap decimalText (c .before .of-magnitude .ensures .0) ∙ finite-text (c .before .before .before .args .b) (c .before .before .if1 .taken))
 
 push-requires : tie.Need-push-requires
 push-requires c κs = omega (arith, c .before .pre .0)
@@ -31,4 +32,4 @@ returns-2 c = λ t e.
 pub push-magnitude-spec : {M : Type 1} → statement M
 push-magnitude-spec =
     tie.close
-    (tie.spec push-finite-requires returns push-requires push-requires-2 push-requires-3 returns-2)
+    (tie.spec (λ c κs. c .if1 .taken) push-decimal-requires returns push-requires push-requires-2 push-requires-3 returns-2)
