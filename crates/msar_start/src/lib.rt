@@ -7,7 +7,6 @@ ghost use lib.ListN.{length};
 use params::MsarParams;
 use text_words::least;
 
-mod groups;
 mod steps;
 mod values;
 
@@ -31,7 +30,7 @@ fn bounded(
     requires { ⌜ (length (now y) ≤ 4096) × (k ≤ 16) × (p ≤ 7) × (blocks ≤ 16) ⌝ }
 {
     let mut labels = [0usize; 4096];
-    let means = groups::split(y, k, i, &mut labels);
+    let means = msar_start_groups::split(y, k, i, &mut labels);
     let transition = steps::transition(i, &labels, y.len(), k);
     let ar = values::coefficients(i, y, p, &labels, &means);
     let variances = values::variances(y, k, p, &labels, &means, &ar, switching_variance);

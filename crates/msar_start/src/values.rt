@@ -1,7 +1,7 @@
 // AR coefficients by Yule and Walker, and variances of the residuals, from the labels and the groups' means.
 ghost use Prim.Native.Nat.{_≤_, _<_};
 ghost use lib.ListN.{length};
-use crate::groups::label_at;
+use msar_start_groups::label_at;
 
 // ---- coefficients
 
