@@ -6,10 +6,10 @@ mod commands;
 
 use msar_args::Command;
 use msar_args::Options;
+use msar_files::keep::Layout;
 use msar_files::opened;
 use params::MsarParams;
 use spec::MsarSpec;
-use text_series::Column;
 
 // ---- on a series
 
@@ -20,71 +20,122 @@ fn unread() -> [f64; 4097]
     [0.0; 4097]
 }
 
+// The lines of the readings.
+fn no_lines() -> [u64; 4097]
+    ensures { λ r. ⌜ 4097 ≡ length r ⌝ }
+{
+    [0; 4097]
+}
+
+// 64 bytes for the kept cell of each reading, and for the heading.
+fn no_texts() -> [u8; 262272]
+    ensures { λ r. ⌜ 262272 ≡ length r ⌝ }
+{
+    [0; 262272]
+}
+
+fn layout_of(o: Options) -> Layout {
+    let heading = o.heading;
+    Layout {
+        csv: o.column != 0,
+        heading,
+        separator: o.separator,
+        separator_given: o.separator_given,
+        keeps: o.keep != 0,
+    }
+}
+
 // The readings of the file, and what the command makes of them.
 fn with_readings(
     o: Options,
     s: MsarSpec,
     q: MsarParams,
+    own: &[u8],
     fd: i32,
     path: &[u8],
-    column: Column,
     name: &[u8],
+    kept: &[u8],
 ) {
     let mut series = unread();
-    let reading = msar_files::series::read(fd, path, column, name, &mut series);
+    let mut numbers = no_lines();
+    let mut texts = no_texts();
+    let reading = msar_files::series::read(
+        fd,
+        path,
+        layout_of(o),
+        name,
+        kept,
+        &mut series,
+        &mut numbers,
+        &mut texts,
+    );
     if reading.good {
-        let command = o.command;
         let held = text_words::least(reading.count, 4097);
         commands::on_series(
-            command,
+            o,
             s,
             q,
+            own,
             &series[..held],
+            &numbers,
+            &texts,
             reading.count,
-            o.max_iter,
-            o.tol,
+            reading.headed,
         );
     }
 }
 
-fn with_column(o: Options, s: MsarSpec, q: MsarParams, fd: i32, path: &[u8]) {
-    if o.column == 0 {
-        with_readings(o, s, q, fd, path, Column::Alone, b"");
-        return;
-    }
+// The words that ask for the columns; empty where there are none.
+fn with_columns(o: Options, s: MsarSpec, q: MsarParams, own: &[u8], fd: i32, path: &[u8]) {
     let mut name = io::buffer();
     let n = os::arg(o.column, &mut name);
-    with_readings(
-        o,
-        s,
-        q,
-        fd,
-        path,
-        msar_files::series::column_of(&name[..n]),
-        &name[..n],
-    );
+    let mut kept = io::buffer();
+    let m = os::arg(o.keep, &mut kept);
+    with_readings(o, s, q, own, fd, path, &name[..n], &kept[..m]);
 }
 
-fn on_series(o: Options, s: MsarSpec, q: MsarParams) {
+fn on_series(o: Options, s: MsarSpec, q: MsarParams, own: &[u8]) {
     let mut path = io::buffer();
     let n = os::arg(o.series, &mut path);
     let fd = opened(&path[..n]);
     if fd < 0 {
         return;
     }
-    with_column(o, s, q, fd, &path[..n]);
+    with_columns(o, s, q, own, fd, &path[..n]);
     libc::close(fd);
 }
 
 // ---- on a model
 
-fn by_command(o: Options, s: MsarSpec, q: MsarParams) {
+// Room for the text of a MODEL file.
+fn no_text() -> [u8; 16384]
+    ensures { λ r. ⌜ 16384 ≡ length r ⌝ }
+{
+    [0; 16384]
+}
+
+fn by_command(o: Options, s: MsarSpec, q: MsarParams, own: &[u8]) {
     let command = o.command;
     match command {
         Command::Check => msar_commands::check(s, q),
-        Command::Durations => msar_commands::durations(q),
-        _ => on_series(o, s, q),
+        Command::Durations => msar_commands::durations(s, q, o.digits),
+        _ => on_series(o, s, q, own),
     }
+}
+
+// The MODEL's own text goes with it; nothing of it where it found no room.
+fn with_text(o: Options, s: MsarSpec, q: MsarParams, own: &[u8], held: usize) {
+    if held > own.len() {
+        msar_say::note(
+            b"the MODEL has more than 16384 bytes: a fit writes it without its comments",
+        );
+        by_command(o, s, q, b"");
+        return;
+    }
+    let part = text_words::part(own, 0, held);
+    let a = part.start;
+    let b = part.end;
+    by_command(o, s, q, &own[a..b]);
 }
 
 fn on_model(o: Options) {
@@ -98,14 +149,23 @@ fn on_model(o: Options) {
     if fd < 0 {
         return;
     }
-    let reading = msar_files::model::read(fd, &path[..n]);
+    let mut own = no_text();
+    let reading = msar_files::model::read(fd, &path[..n], &mut own);
     libc::close(fd);
     if reading.good {
         let model = reading.model;
         let s = model.spec;
         let q = model.params;
-        by_command(o, s, q);
+        with_text(o, s, q, &own, reading.held);
     }
+}
+
+// `start` has no MODEL: an empty one stands in its place, which it does not look at.
+fn without_model(o: Options) {
+    let model = text_model::finish(text_model::start());
+    let s = model.spec;
+    let q = model.params;
+    on_series(o, s, q, b"");
 }
 
 fn main() {
@@ -117,6 +177,7 @@ fn main() {
     match command {
         Command::Help => msar_args::help::help(),
         Command::Version => msar_args::help::version(),
+        Command::Start => without_model(o),
         _ => on_model(o),
     }
 }

@@ -1,11 +1,20 @@
-// The commands, each a call and what it writes; `fit` stands beside `main`. Work memory holds 3 * n * m numbers for n rows of m windows:
-// 4,096 readings with 32 windows, 512 with 256.
+// The commands, each a call and what it writes; `fit` and `start` stand in msar_fit. Work memory holds 3 * n * m numbers for n rows of m
+// windows: 4,096 readings with 32 windows, 512 with 256.
+ghost use Prim.Native.Nat.{_≤_, _<_};
+
+pub mod refusals;
+pub mod verdict;
+
+use msar_out::entry;
+use msar_out::row_start;
 use msar_out::table;
+use msar_out::table::Style;
 use params::MsarParams;
-use refusal::Check;
-use refusal::Refusal;
+use refusals::has_passed;
+use refusals::is_fine;
 use spec::MsarSpec;
 use spec::Windows;
+use text_words::least;
 
 const LONGEST: usize = 4096;
 
@@ -13,20 +22,6 @@ const LONGEST: usize = 4096;
 const CELLS: usize = 131072;
 
 // ---- on a model
-
-// Says a refusal, if there is one. One of a series that is too long carries how many readings there were.
-pub fn has_passed(check: Check, readings: usize) -> bool {
-    match check {
-        Check::Passed => true,
-        Check::Failed(r) => {
-            match r {
-                Refusal::LongSeries(_) => msar_say::refused(Refusal::LongSeries(readings)),
-                _ => msar_say::refused(r),
-            }
-            false
-        }
-    }
-}
 
 // The longest series for so many windows.
 fn longest(order: usize, windows: usize) -> usize {
@@ -43,12 +38,43 @@ fn longest(order: usize, windows: usize) -> usize {
     rows + order
 }
 
+// The parameters, and the shares from which every call starts.
+fn is_sound(s: MsarSpec, q: MsarParams) -> bool {
+    if !is_fine(q.check(), s, q) {
+        return false;
+    }
+    let shares = stationary::stationary_shares(q);
+    let check = shares.check;
+    is_fine(check, s, q)
+}
+
+fn note_stays(i: usize) {
+    msar_say::note_of(
+        b"regime ",
+        i,
+        b" cannot be left (its probability of staying is 1): every call starts as if it held already, and no verdict on another regime lasts",
+    );
+}
+
+// Says which regimes cannot be left.
+fn note_all_that_stay(q: MsarParams) {
+    let k = least(q.means_count, 16);
+    let mut i = 0;
+    while i < k {
+        if entry(&q.transition, row_start(i, k) + i) >= 1.0 {
+            note_stays(i);
+        }
+        i += 1;
+    }
+}
+
 // The shape, after the checks.
 pub fn check(s: MsarSpec, q: MsarParams) {
     match s.expanded_states() {
-        Windows::Refused(r) => msar_say::refused(r),
+        Windows::Refused(r) => msar_say::refusals::refused(r, s.k_regimes, s.order, b""),
         Windows::Count(m) => {
-            if has_passed(q.check(), 0) {
+            if is_sound(s, q) {
+                note_all_that_stay(q);
                 table::shape(s.k_regimes, s.order, m, longest(s.order, m));
             }
         }
@@ -56,22 +82,47 @@ pub fn check(s: MsarSpec, q: MsarParams) {
 }
 
 // How long the model stays in each regime, on average.
-pub fn durations(q: MsarParams) {
+pub fn durations(s: MsarSpec, q: MsarParams, digits: usize) {
     let d = q.expected_durations();
     let check = d.check;
     let values = d.values;
-    if has_passed(check, 0) {
-        table::durations(values, q.means_count);
+    if is_fine(check, s, q) {
+        table::durations(values, q.means_count, digits);
     }
 }
 
 // ---- on a model and a series
 
-pub fn loglike(s: MsarSpec, y: &[f64], q: MsarParams, readings: usize, work: &mut [f64]) {
+// What order 0 means in this version, said before the answer.
+fn note_order(order: usize, smoothed: bool) {
+    if order != 0 {
+        return;
+    }
+    if smoothed {
+        msar_say::note(
+            b"at order 0 this version does not look at the regime before, and the smoothed rows do not add up to 1: take order 1, with `ar 0` for no lag",
+        );
+        return;
+    }
+    msar_say::note(
+        b"at order 0 this version does not look at the regime before: take order 1, with `ar 0` for no lag",
+    );
+}
+
+pub fn loglike(
+    s: MsarSpec,
+    y: &[f64],
+    q: MsarParams,
+    numbers: &[u64],
+    readings: usize,
+    digits: usize,
+    work: &mut [f64],
+) {
     let answer = calls::loglike(s, y, q, work);
     let check = answer.check;
-    if has_passed(check, readings) {
-        table::loglike(readings, answer.loglik);
+    if has_passed(check, s, q, y, numbers, readings) {
+        note_order(s.order, false);
+        table::loglike(readings, answer.loglik, digits);
     }
 }
 
@@ -79,14 +130,18 @@ pub fn filter(
     s: MsarSpec,
     y: &[f64],
     q: MsarParams,
+    numbers: &[u64],
+    texts: &[u8],
     readings: usize,
+    style: Style,
     work: &mut [f64],
     filtered: &mut [f64],
 ) {
     let answer = calls::filter(s, y, q, work, filtered);
     let check = answer.check;
-    if has_passed(check, readings) {
-        table::probabilities(y, s.order, filtered, s.k_regimes);
+    if has_passed(check, s, q, y, numbers, readings) {
+        note_order(s.order, false);
+        table::probabilities(y, s.order, filtered, s.k_regimes, texts, style);
     }
 }
 
@@ -94,14 +149,18 @@ pub fn smooth(
     s: MsarSpec,
     y: &[f64],
     q: MsarParams,
+    numbers: &[u64],
+    texts: &[u8],
     readings: usize,
+    style: Style,
     work: &mut [f64],
     filtered: &mut [f64],
     smoothed: &mut [f64],
 ) {
     let answer = calls::smooth(s, y, q, work, filtered, smoothed);
     let check = answer.check;
-    if has_passed(check, readings) {
-        table::probabilities(y, s.order, smoothed, s.k_regimes);
+    if has_passed(check, s, q, y, numbers, readings) {
+        note_order(s.order, true);
+        table::probabilities(y, s.order, smoothed, s.k_regimes, texts, style);
     }
 }

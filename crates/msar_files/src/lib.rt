@@ -1,6 +1,9 @@
 // The files that the program reads.
+mod csv;
+pub mod keep;
 mod lines;
 pub mod model;
+mod plain;
 pub mod series;
 
 // The descriptor of a file, `-` being standard input; below 0 where it cannot be opened, which is said by then.

@@ -164,7 +164,7 @@ pub fn told(state: State, path: &[u8], number: u64) -> Course {
         State::Whole => Course::Going,
         State::End => Course::Done,
         State::Long => {
-            msar_say::expected(
+            msar_say::file::expected(
                 path,
                 number,
                 4097,

@@ -1,26 +1,19 @@
 // Reads a SERIES file.
-use crate::column;
+use crate::csv;
+use crate::keep;
+use crate::keep::Layout;
+use crate::keep::Progress;
+use crate::keep::Told;
 use crate::lines;
 use crate::lines::Course;
 use crate::lines::Source;
-use text_series::Column;
-use text_series::Fault;
-use text_series::Item;
-use text_words::Count;
+use crate::plain;
 
 // What was at fault is said by then. Readings are counted past the room for them.
 pub struct Reading {
     pub good: bool,
     pub count: usize,
-}
-
-// So far: the readings counted; the line of the first blank one since the last reading, else 0; where a line's reading stands, and
-// whether the first line is still to come.
-struct Progress {
-    count: usize,
-    blank: u64,
-    column: Column,
-    first: bool,
+    pub headed: bool,
 }
 
 struct Turn {
@@ -29,180 +22,153 @@ struct Turn {
     course: Course,
 }
 
-fn wrong(path: &[u8], line: u64, place: usize, f: Fault, name: &[u8]) {
-    let c = column(place);
-    match f {
-        Fault::OneNumber => msar_say::expected(
-            path,
-            line,
-            c,
-            b"one number alone on its line (the cells of a CSV file need --column)",
-        ),
-        Fault::Number => msar_say::expected(path, line, c, b"a number in the column"),
-        Fault::Cell(_) => msar_say::expected_name(path, line, c, b"a cell in column ", name),
-        Fault::Name => msar_say::expected_name(
-            path,
-            line,
-            c,
-            b"a line of names, one of them ",
-            name,
-        ),
-    }
-}
-
-// If there is room.
-fn store(series: &mut [f64], i: usize, x: f64) {
-    if i >= series.len() {
-        return;
-    }
-    series[i] = x;
-}
-
-fn kept(p: Progress, series: &mut [f64], x: f64) -> Progress {
-    let count = p.count;
-    let column = p.column;
-    store(series, count, x);
-    Progress {
-        count: one_more(count),
-        blank: 0,
-        column,
-        first: false,
-    }
-}
-
-// Counted up to 2 ^ 40, which no file reaches.
-fn one_more(count: usize) -> usize {
-    if count < 0x100_0000_0000 {
-        return count + 1;
-    }
-    count
-}
-
-fn going(source: Source, progress: Progress) -> Turn {
-    Turn {
-        source,
-        progress,
-        course: Course::Going,
-    }
-}
-
-fn stopped(source: Source, progress: Progress) -> Turn {
-    Turn {
-        source,
-        progress,
-        course: Course::Stopped,
-    }
-}
-
-// The first line of the file that counts is a line of names, or told the column.
-fn begun(source: Source, p: Progress, column: Column) -> Turn {
-    let next = Progress {
-        column,
-        first: false,
-        ..p
-    };
-    going(source, next)
-}
-
-// A blank line is fine where nothing but blank lines and comments follows it.
-fn blank(source: Source, p: Progress, number: u64) -> Turn {
-    let mut next = p;
-    if next.blank == 0 {
-        next.blank = number;
-    }
-    going(source, next)
-}
-
-// What a line adds.
-fn added(
+// What the line says.
+fn told(
     path: &[u8],
     number: u64,
-    source: Source,
+    text: &[u8],
     p: Progress,
-    item: Item,
+    layout: Layout,
     name: &[u8],
-    series: &mut [f64],
-) -> Turn {
-    let column = p.column;
-    match item {
-        Item::Comment => going(source, p),
-        Item::Blank => blank(source, p, number),
-        Item::Header => begun(source, p, column),
-        Item::Under(i) => begun(source, p, Column::Numbered(i)),
-        Item::Wrong(f, place) => {
-            wrong(path, number, place, f, name);
-            stopped(source, p)
-        }
-        Item::Reading(x) => {
-            if p.blank != 0 {
-                msar_say::expected(
-                    path,
-                    p.blank,
-                    1,
-                    b"a reading: more follow after this blank line",
-                );
-                return stopped(source, p);
-            }
-            going(source, kept(p, series, x))
-        }
+    kept: &[u8],
+) -> Told {
+    if layout.csv {
+        return csv::line(path, number, text, p, layout, name, kept);
     }
+    plain::line(path, number, text, p)
 }
 
-// Reads a line.
+// Reads a line, without a byte order mark.
+fn line_read(
+    path: &[u8],
+    number: u64,
+    whole: &[u8],
+    p: Progress,
+    layout: Layout,
+    name: &[u8],
+    kept: &[u8],
+    series: &mut [f64],
+    numbers: &mut [u64],
+    texts: &mut [u8],
+) -> Told {
+    let from = text_words::mark(whole, number == 1);
+    let next = told(path, number, &whole[from..], p, layout, name, kept);
+    keep::all(&whole[from..], number, next, series, numbers, texts);
+    next
+}
+
+// Takes the next line.
 fn one_line(
     path: &[u8],
     number: u64,
     source: Source,
     p: Progress,
+    layout: Layout,
     name: &[u8],
+    kept: &[u8],
     block: &mut [u8; 4096],
     series: &mut [f64],
+    numbers: &mut [u64],
+    texts: &mut [u8],
 ) -> Turn {
     let mut line = io::buffer();
     let taken = lines::next(source, block, &mut line);
     let after = taken.source;
     let n = taken.length;
     let state = taken.state;
-    let column = p.column;
     let course = lines::told(state, path, number);
-    if let Course::Going = course {
-        let item = text_series::read(&line[..n], column, name, p.first);
-        return added(path, number, after, p, item, name, series);
-    }
+    let Course::Going = course else {
+        return Turn {
+            source: after,
+            progress: p,
+            course,
+        };
+    };
+    let next = line_read(
+        path,
+        number,
+        &line[..n],
+        p,
+        layout,
+        name,
+        kept,
+        series,
+        numbers,
+        texts,
+    );
+    let progress = next.progress;
+    let course = next.course;
     Turn {
         source: after,
-        progress: p,
+        progress,
         course,
     }
 }
 
-// A column's number counts from 1 for the user.
-pub fn column_of(word: &[u8]) -> Column {
-    match text_words::whole(word) {
-        Count::Wrong => Column::Named,
-        Count::Number(n) => {
-            if n == 0 {
-                return Column::Named;
-            }
-            Column::Numbered(n - 1)
-        }
+fn bad() -> Reading {
+    Reading {
+        good: false,
+        count: 0,
+        headed: false,
     }
 }
 
-// The readings of the file, in the series as far as there is room. `name` is the column's name, or its number as it was given.
-// A proved loop has to end, and nothing says that the file does: it stops after 2 ^ 32 lines.
-pub fn read(fd: i32, path: &[u8], column: Column, name: &[u8], series: &mut [f64]) -> Reading {
+// The line of the first reading.
+fn first_of(numbers: &[u64]) -> u64 {
+    if numbers.len() == 0 {
+        return 1;
+    }
+    numbers[0]
+}
+
+// Without a heading nothing says that a comma parts cells and does not cut numbers.
+fn ended(path: &[u8], p: Progress, numbers: &[u64]) -> Reading {
+    if p.doubtful & (p.count > 0) {
+        msar_say::file::wrong(
+            path,
+            first_of(numbers),
+            1,
+            b"every reading could be a part of a number that a comma cuts in two, as `0,37` or `1,234.5`: write a point and no comma, or say with --separator , that commas part the cells",
+        );
+        return bad();
+    }
+    Reading {
+        good: true,
+        count: p.count,
+        headed: p.headed,
+    }
+}
+
+// The readings of the file, with their lines and the kept cells, as far as there is room. `name` and `kept` are the words that ask for
+// the columns. A proved loop has to end, and nothing says that the file does: it stops after 2 ^ 32 lines.
+pub fn read(
+    fd: i32,
+    path: &[u8],
+    layout: Layout,
+    name: &[u8],
+    kept: &[u8],
+    series: &mut [f64],
+    numbers: &mut [u64],
+    texts: &mut [u8],
+) -> Reading {
     let mut block = io::buffer();
     let mut source = lines::of(fd);
-    let mut p = Progress {
-        count: 0,
-        blank: 0,
-        column,
-        first: true,
-    };
+    let mut p = keep::nothing();
     let mut number: u64 = 1;
     while number < 0x1_0000_0000 {
-        let t = one_line(path, number, source, p, name, &mut block, series);
+        let t = one_line(
+            path,
+            number,
+            source,
+            p,
+            layout,
+            name,
+            kept,
+            &mut block,
+            series,
+            numbers,
+            texts,
+        );
         source = t.source;
         p = t.progress;
         let course = t.course;
@@ -211,22 +177,13 @@ pub fn read(fd: i32, path: &[u8], column: Column, name: &[u8], series: &mut [f64
                 number += 1;
             }
             Course::Done => {
-                return Reading {
-                    good: true,
-                    count: p.count,
-                };
+                return ended(path, p, numbers);
             }
             Course::Stopped => {
-                return Reading {
-                    good: false,
-                    count: 0,
-                };
+                return bad();
             }
         }
     }
     msar_say::failed(b"too many lines in ", path);
-    Reading {
-        good: false,
-        count: 0,
-    }
+    bad()
 }

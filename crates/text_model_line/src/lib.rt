@@ -12,6 +12,7 @@ pub enum Fault {
     Once,
     SizesFirst,
     Size,
+    // a number: the word that begins there is none
     Number,
     // so many numbers, and no more
     Numbers(usize),
@@ -126,8 +127,8 @@ fn numbers(line: &[u8], from: usize, most: usize) -> Row
             };
         }
         match text_decimal_read::read(&line[a..b]) {
-            Parsed::Wrong(i) => {
-                return stopped(Fault::Number, text_words::within(a, b, i));
+            Parsed::Wrong(_) => {
+                return stopped(Fault::Number, a);
             }
             Parsed::Number(x) => {
                 values[count] = x;

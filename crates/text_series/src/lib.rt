@@ -1,41 +1,20 @@
-// A SERIES file, line by line: a reading on each line, or in a column of comma separated cells. docs/MODEL.md has the rules.
-// Places in a line count from 0, and so do columns.
+// A line of a SERIES file without columns: a number alone, a comment, or nothing. docs/MODEL.md has the rules. Places in a line count
+// from 0.
 ghost use Prim.Native.Nat.{_≤_};
 ghost use lib.ListN.{length};
 use text_decimal_read::Parsed;
-use text_words::Found;
-
-// Where a line's reading stands: it is all of the line, or the cell with this number, or the cell under a name that was not met yet.
-pub enum Column {
-    Alone,
-    Numbered(usize),
-    Named,
-}
-
-// What was expected where a line is at fault.
-pub enum Fault {
-    // a number alone on its line
-    OneNumber,
-    // a number in the cell
-    Number,
-    // a cell with this number
-    Cell(usize),
-    // the column's name
-    Name,
-}
 
 // What a line says.
 pub enum Item {
     Reading(f64),
-    // a blank line
     Blank,
-    // a comment
     Comment,
-    // a line of names, in front of the first reading
-    Header,
-    // the column has this number
-    Under(usize),
-    Wrong(Fault, usize),
+    // a comment that stands for a missing reading, from this place to that
+    Missing(usize, usize),
+    // what stands from this place to that is no number
+    NoNumber(usize, usize),
+    // a second word begins here
+    Second(usize),
 }
 
 // The line's word is the reading, and it is the only one.
@@ -44,63 +23,41 @@ fn alone(line: &[u8], start: usize, end: usize) -> Item
 {
     let more = text_words::word(line, end);
     if more.start != more.end {
-        return Item::Wrong(Fault::OneNumber, more.start);
+        return Item::Second(more.start);
     }
     match text_decimal_read::read(&line[start..end]) {
         Parsed::Number(x) => Item::Reading(x),
-        Parsed::Wrong(i) => Item::Wrong(Fault::OneNumber, text_words::within(start, end, i)),
+        Parsed::Wrong(_) => Item::NoNumber(start, end),
     }
 }
 
-// The cell's content is the reading. The first line may hold names.
-fn in_cell(line: &[u8], start: usize, end: usize, first: bool) -> Item
-    requires { ⌜ (start ≤ end) × (end ≤ length (now line)) ⌝ }
+// The end of a comment's first word.
+fn comment_word(line: &[u8], start: usize) -> usize
+    requires { ⌜ start ≤ length (now line) ⌝ }
+    ensures { λ r. ⌜ (start ≤ r) × (r ≤ length (now (line .entry))) ⌝ }
 {
-    match text_decimal_read::read(&line[start..end]) {
-        Parsed::Number(x) => Item::Reading(x),
-        Parsed::Wrong(i) => {
-            if first {
-                return Item::Header;
-            }
-            Item::Wrong(Fault::Number, text_words::within(start, end, i))
-        }
-    }
-}
-
-fn numbered(line: &[u8], number: usize, first: bool) -> Item {
-    match text_words::cell(line, number) {
-        Found::Nothing => Item::Wrong(Fault::Cell(number), line.len()),
-        Found::At(s) => in_cell(line, s.start, s.end, first),
-    }
-}
-
-fn is_named(line: &[u8], start: usize, end: usize, name: &[u8]) -> bool
-    requires { ⌜ (start ≤ end) × (end ≤ length (now line)) ⌝ }
-{
-    text_words::same(&line[start..end], name)
-}
-
-// The number of the first cell that holds the name.
-fn named(line: &[u8], name: &[u8]) -> Item {
-    let mut i = 0;
-    while i <= line.len() {
-        match text_words::cell(line, i) {
-            Found::Nothing => {
-                return Item::Wrong(Fault::Name, 0);
-            }
-            Found::At(s) => {
-                if is_named(line, s.start, s.end, name) {
-                    return Item::Under(i);
-                }
-            }
+    let mut i = start;
+    while i < line.len() {
+        let c = line[i];
+        if (c == b' ') | (c == b'\t') | (c == b'\r') {
+            return i;
         }
         i += 1;
     }
-    Item::Wrong(Fault::Name, 0)
+    i
 }
 
-// What a line says; `first` where no reading and no names came before it.
-pub fn read(line: &[u8], column: Column, name: &[u8], first: bool) -> Item {
+fn comment(line: &[u8], start: usize) -> Item
+    requires { ⌜ start ≤ length (now line) ⌝ }
+{
+    let end = comment_word(line, start);
+    if text_no_number::is_spreadsheet_word(&line[start..end]) {
+        return Item::Missing(start, end);
+    }
+    Item::Comment
+}
+
+pub fn read(line: &[u8]) -> Item {
     let word = text_words::word(line, 0);
     let a = word.start;
     let b = word.end;
@@ -108,11 +65,7 @@ pub fn read(line: &[u8], column: Column, name: &[u8], first: bool) -> Item {
         return Item::Blank;
     }
     if a == b {
-        return Item::Comment;
+        return comment(line, a);
     }
-    match column {
-        Column::Alone => alone(line, a, b),
-        Column::Numbered(i) => numbered(line, i, first),
-        Column::Named => named(line, name),
-    }
+    alone(line, a, b)
 }

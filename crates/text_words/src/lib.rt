@@ -1,21 +1,15 @@
-// Lines of text, taken apart and put together: words between blanks, cells between commas, whole numbers, bytes behind bytes.
+// Lines of text, taken apart and put together: words between blanks, cells between separators, whole numbers, bytes behind bytes.
 // Places in a line count from 0.
 ghost use mathlib.Core.Path.{_≡_};
 ghost use Prim.Native.Nat.{_≤_};
 ghost use lib.ListN.{length};
 ghost use Rattle.text_words.specs.Words.{isBlank, inWord, past, wordFrom};
-ghost use Rattle.text_words.specs.Places.{Inside, Leads};
+ghost use Rattle.text_words.specs.Places.{Leads};
 
 // From `start` up to, not including, `end`.
 pub struct Span {
     pub start: usize,
     pub end: usize,
-}
-
-// What a search finds.
-pub enum Found {
-    At(Span),
-    Nothing,
 }
 
 pub enum Count {
@@ -31,14 +25,48 @@ pub fn least(a: usize, b: usize) -> usize
     if a < b { a } else { b }
 }
 
-// The place of the byte at fault in a piece that starts at `start`.
-pub fn within(start: usize, end: usize, fault: usize) -> usize
-    requires { ⌜ start ≤ end ⌝ }
+// The part of the line from `start` to `end`, as far as it has them.
+pub fn part(line: &[u8], start: usize, end: usize) -> Span
+    ensures { λ r. ⌜ (r .start ≤ r .end) × (r .end ≤ length (now (line .entry))) ⌝ }
 {
-    if fault <= end - start {
-        return start + fault;
+    let to = least(end, line.len());
+    Span {
+        start: least(start, to),
+        end: to,
     }
-    start
+}
+
+// How many bytes of the line a byte order mark takes: 3, or none where it is not the first line or has no such mark at its start.
+pub fn mark(line: &[u8], first: bool) -> usize
+    ensures { λ r. ⌜ r ≤ length (now (line .entry)) ⌝ }
+{
+    if !first {
+        return 0;
+    }
+    if line.len() < 3 {
+        return 0;
+    }
+    if (line[0] == 0xEF) & (line[1] == 0xBB) & (line[2] == 0xBF) {
+        return 3;
+    }
+    0
+}
+
+// Whether the line holds blanks alone.
+pub fn is_blank_line(line: &[u8]) -> bool {
+    past_blanks(line, 0) == line.len()
+}
+
+// Whether the byte stands in the line.
+pub fn has(line: &[u8], c: u8) -> bool {
+    let mut i = 0;
+    while i < line.len() {
+        if line[i] == c {
+            return true;
+        }
+        i += 1;
+    }
+    false
 }
 
 // ---- words
@@ -99,10 +127,39 @@ pub fn word(line: &[u8], from: usize) -> Span
     Span { start, end }
 }
 
+// Where a comment begins, or the line's end.
+pub fn comment(line: &[u8]) -> usize
+    ensures { λ r. ⌜ r ≤ length (now (line .entry)) ⌝ }
+{
+    let mut i = 0;
+    while i < line.len() {
+        if line[i] == b'#' {
+            return i;
+        }
+        i += 1;
+    }
+    i
+}
+
+// The end of the line that begins at this place of a text of lines: where its line feed stands, or the text's end.
+pub fn line_end(text: &[u8], from: usize) -> usize
+    requires { ⌜ from ≤ length (now text) ⌝ }
+    ensures { λ r. ⌜ (from ≤ r) × (r ≤ length (now (text .entry))) ⌝ }
+{
+    let mut i = from;
+    while i < text.len() {
+        if text[i] == b'\n' {
+            return i;
+        }
+        i += 1;
+    }
+    i
+}
+
 // ---- cells
 
-// The place of the first comma from this one on that stands outside quotes, or the line's end.
-fn cell_end(line: &[u8], from: usize) -> usize
+// The place of the first separator from this one on that stands outside quotes, or the line's end.
+fn cell_end(line: &[u8], from: usize, separator: u8) -> usize
     requires { ⌜ from ≤ length (now line) ⌝ }
     ensures { λ r. ⌜ (from ≤ r) × (r ≤ length (now (line .entry))) ⌝ }
 {
@@ -113,7 +170,7 @@ fn cell_end(line: &[u8], from: usize) -> usize
         if c == b'"' {
             quoted = !quoted;
         }
-        if (c == b',') & !quoted {
+        if (c == separator) & !quoted {
             return i;
         }
         i += 1;
@@ -136,8 +193,8 @@ fn before_blanks(line: &[u8], start: usize, end: usize) -> usize
     e
 }
 
-// Without the quotes, where it begins and ends with one.
-fn unquoted(line: &[u8], start: usize, end: usize) -> Span
+// A cell's content: without the quotes, where it begins and ends with one.
+pub fn unquoted(line: &[u8], start: usize, end: usize) -> Span
     requires { ⌜ (start ≤ end) × (end ≤ length (now line)) ⌝ }
     ensures { λ r. ⌜ (r .start ≤ r .end) × (r .end ≤ end) ⌝ }
 {
@@ -152,7 +209,7 @@ fn unquoted(line: &[u8], start: usize, end: usize) -> Span
     Span { start, end }
 }
 
-// Without the blanks around it, and then without the quotes.
+// Without the blanks around it. A separator is no blank, not even a tab.
 fn trimmed(line: &[u8], from: usize, to: usize) -> Span
     requires { ⌜ (from ≤ to) × (to ≤ length (now line)) ⌝ }
     ensures { λ r. ⌜ (r .start ≤ r .end) × (r .end ≤ to) ⌝ }
@@ -162,25 +219,63 @@ fn trimmed(line: &[u8], from: usize, to: usize) -> Span
         return Span { start: to, end: to };
     }
     let end = before_blanks(line, start, to);
-    unquoted(line, start, end)
+    Span { start, end }
 }
 
-// The cell with this number, counted from 0. It may be empty.
-pub fn cell(line: &[u8], number: usize) -> Found
-    ensures { λ r. ⌜ Inside (length (now (line .entry))) r ⌝ }
+// An empty cell at the line's end.
+fn no_cell(line: &[u8]) -> Span
+    ensures { λ r. ⌜ (r .start ≤ r .end) × (r .end ≤ length (now (line .entry))) ⌝ }
+{
+    Span {
+        start: line.len(),
+        end: line.len(),
+    }
+}
+
+// The cell with this number, counted from 0, as it stands, with its quotes. It may be empty, and is where there is none.
+pub fn cell(line: &[u8], number: usize, separator: u8) -> Span
+    ensures { λ r. ⌜ (r .start ≤ r .end) × (r .end ≤ length (now (line .entry))) ⌝ }
 {
     let mut start = 0;
     let mut i = 0;
     while i < number {
-        let end = cell_end(line, start);
+        let end = cell_end(line, start, separator);
         if end >= line.len() {
-            return Found::Nothing;
+            return no_cell(line);
         }
         start = end + 1;
         i += 1;
     }
-    let end = cell_end(line, start);
-    Found::At(trimmed(line, start, end))
+    let end = cell_end(line, start, separator);
+    trimmed(line, start, end)
+}
+
+// How many cells there are: one more than separators outside quotes.
+pub fn cells(line: &[u8], separator: u8) -> usize {
+    let mut start = 0;
+    let mut count = 1;
+    while start <= line.len() {
+        let end = cell_end(line, start, separator);
+        if end == line.len() {
+            return count;
+        }
+        start = end + 1;
+        count += 1;
+    }
+    count
+}
+
+// Whether every quote of the line is closed on it.
+pub fn closed(line: &[u8]) -> bool {
+    let mut open = false;
+    let mut i = 0;
+    while i < line.len() {
+        if line[i] == b'"' {
+            open = !open;
+        }
+        i += 1;
+    }
+    !open
 }
 
 // ---- comparing
@@ -197,6 +292,13 @@ pub fn same(a: &[u8], b: &[u8]) -> bool {
         i += 1;
     }
     true
+}
+
+pub fn begins(text: &[u8], start: &[u8]) -> bool {
+    let part = part(text, 0, start.len());
+    let a = part.start;
+    let b = part.end;
+    same(&text[a..b], start)
 }
 
 // ---- whole numbers

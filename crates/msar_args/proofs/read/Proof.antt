@@ -1,4 +1,4 @@
--- `args::read` is safe and ends. The measure is the count of words to come.
+-- `msar_args::read` is safe and ends. The measure is the count of words to come.
 use Prim.Native.Nat.{_≤_, _-_}
 use borrow.Author.Needs.{needs}
 use Rattle.msar_args.proofs.read.Statement.{statement}
@@ -18,7 +18,9 @@ read-spec =
     μ-loop
     (λ c κs. search needs)
     (λ c κs. search needs)
+    (λ c. search needs)
     (λ c κs. search needs)
+    (λ c. search needs)
     (λ c. search needs)
     (λ c κs. search needs)
     (λ c. search needs)

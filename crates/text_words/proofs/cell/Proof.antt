@@ -6,10 +6,10 @@ use Rattle.text_words.proofs.cell.Statement.{statement}
 use Rattle.text_words.proofs.cell.Tie as tie
 
 abbrev Inv-loop : tie.InvT-loop
-Inv-loop line number start₀ i₀ start i = (start ≤ length line) × (i ≤ number)
+Inv-loop line number separator start₀ i₀ start i = (start ≤ length line) × (i ≤ number)
 
 abbrev μ-loop : tie.MeasureT-loop
-μ-loop line number start₀ i₀ start i = number - i
+μ-loop line number separator start₀ i₀ start i = number - i
 
 pub cell-spec : {M : Type 1} → statement M
 cell-spec =
@@ -18,6 +18,7 @@ cell-spec =
     Inv-loop
     μ-loop
     (λ c. search needs)
+    (λ c κs. search needs)
     (λ c κs. search needs)
     (λ c. search needs)
     (λ c. search needs)

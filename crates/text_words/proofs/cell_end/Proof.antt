@@ -6,10 +6,10 @@ use Rattle.text_words.proofs.cell_end.Statement.{statement}
 use Rattle.text_words.proofs.cell_end.Tie as tie
 
 abbrev Inv-loop : tie.InvT-loop
-Inv-loop line from quoted₀ i₀ quoted i = (from ≤ i) × (i ≤ length line)
+Inv-loop line from separator quoted₀ i₀ quoted i = (from ≤ i) × (i ≤ length line)
 
 abbrev μ-loop : tie.MeasureT-loop
-μ-loop line from quoted₀ i₀ quoted i = length line - i
+μ-loop line from separator quoted₀ i₀ quoted i = length line - i
 
 pub cell-end-spec : {M : Type 1} → statement M
 cell-end-spec =

@@ -1,14 +1,14 @@
--- `table::all_durations` meets its contract: what was put last leads the text. The measure is the count of labels to come.
+-- `table::all_durations` meets its contract. The measure is the count of labels to come.
 use Prim.Native.Nat.{_≤_, _-_}
 use borrow.Author.Needs.{needs}
 use Rattle.msar_out.proofs.table.all_durations.Statement.{statement}
 use Rattle.msar_out.proofs.table.all_durations.Tie as tie
 
 abbrev Inv-loop : tie.InvT-loop
-Inv-loop out₀ k values n₀ j₀ t8 out n j = j ≤ k
+Inv-loop out₀ k digits values n₀ j₀ t9 out n j = j ≤ k
 
 abbrev μ-loop : tie.MeasureT-loop
-μ-loop out₀ k values n₀ j₀ t8 out n j = k - j
+μ-loop out₀ k digits values n₀ j₀ t9 out n j = k - j
 
 pub all-durations-spec : {M : Type 1} → statement M
 all-durations-spec =

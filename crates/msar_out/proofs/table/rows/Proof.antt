@@ -5,10 +5,10 @@ use Rattle.msar_out.proofs.table.rows.Statement.{statement}
 use Rattle.msar_out.proofs.table.rows.Tie as tie
 
 abbrev Inv-loop : tie.InvT-loop
-Inv-loop y order table k row₀ row = row ≤ 4096
+Inv-loop y order table k texts style row₀ row = row ≤ 4096
 
 abbrev μ-loop : tie.MeasureT-loop
-μ-loop y order table k row₀ row = 4096 - row
+μ-loop y order table k texts style row₀ row = 4096 - row
 
 pub rows-spec : {M : Type 1} → statement M
 rows-spec =
