@@ -16,7 +16,7 @@ use Rattle.window.specs.Windows.{label, labels}
 use Rattle.window.specs.declared.Time.{Time}
 use Rattle.window.specs.Shape.{Shape}
 use Rattle.window.proofs.Windows.{label-labels, label-cut}
-use Rattle.window.proofs.Table.{order-at-most-7}
+use Rattle.window.proofs.Shape.{order-at-most-7}
 use Rattle.params.specs.declared.MsarParams.{MsarParams}
 use Rattle.params.specs.Parameters.{k, p, φ, blockOf}
 use Rattle.density.specs.Density.{meanTo}

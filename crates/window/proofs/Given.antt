@@ -9,7 +9,8 @@ use Rattle.window.specs.Windows.{label, labels, number, successor, prede
 use Rattle.window.specs.Shape.{Given}
 use Rattle.window.proofs.Windows.{label-labels-any}
 use Rattle.window.proofs.Neighbours.{number-successor, number-predecessor, successor-below, predecessor-below}
-use Rattle.window.proofs.Table.{order-at-most-7, power-at}
+use Rattle.window.proofs.Shape.{order-at-most-7}
+use Rattle.window.proofs.Table.{power-at}
 
 module _ {k p a : ℕ} {powers : List ℕ} (g : Given k p powers a) where
   pub k-positive : 0 < k

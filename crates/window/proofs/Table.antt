@@ -2,7 +2,7 @@
 use Prim.Native.Nat.{ℕ, suc, _+_, _-_, _*_, _/_, _^_, _<_, _≤_}
 use mathlib.Core.Path.{_≡_, _∙_}
 use mathlib.Core.List.{List, _++_, append-assoc}
-use native.Mathlib.Nat.{pow-suc, pow-zero, pow-le-pow-left, pow-le-pow-right, lt-of-not-le, le-of-suc-le-suc, le-div-iff-mul-le, div-lt-iff-lt-mul}
+use native.Mathlib.Nat.{pow-suc, pow-zero, pow-le-pow-right, le-div-iff-mul-le, div-lt-iff-lt-mul}
 use native.Mathlib.Numerals.{add-one}
 use native.Mathlib.Omega.{arith}
 use borrow.Author.Tests.{le-leb, lt-leb}
@@ -11,17 +11,7 @@ use lib.Seq.{set-at}
 use Rattle.number.specs.Table.{tab}
 use Rattle.number.proofs.Table.{length-tab, getD-tab}
 use Rattle.window.specs.Shape.{Shape, powersOf}
-
--- ---- how many windows there are
-
-pub order-at-most-7 : (k p : ℕ) → 2 ≤ k → k ^ suc p ≤ 256 → p ≤ 7
-order-at-most-7 k p h f =
-    le-of-suc-le-suc
-    (lt-of-not-le
-    (λ (i : 8 ≤ p).
-    let low : 2 ^ 9 ≤ k ^ 9 = pow-le-pow-left h 9 in
-    let high : k ^ 9 ≤ k ^ suc p = pow-le-pow-right (omega arith) (omega arith) in
-    omega arith))
+use Rattle.window.proofs.Shape.{order-at-most-7}
 
 -- the next power, which the code only makes where it is at most 256
 module _ (k l : ℕ) (h : 2 ≤ k) {q : ℕ} (e : q ≡ k ^ l) where

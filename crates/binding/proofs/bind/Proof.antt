@@ -5,7 +5,7 @@ use native.Mathlib.Omega.{arith}
 use borrow.Author.Needs.{needs}
 use Rattle.spec.specs.Spec.{specCheck, windowCount}
 use Rattle.refusal.specs.declared.Check.the-variants.{Passed}
-use Rattle.window.proofs.Table.{order-at-most-7}
+use Rattle.window.proofs.Shape.{order-at-most-7}
 use Rattle.binding.specs.Binding.{boundCheck}
 use Rattle.binding.proofs.Passed.{count-passed, count-refused, shape-of, power-of, Fits, fits, bound-spec, bound-series, bound-check, bound-passed}
 use Rattle.binding.proofs.bind.Statement.{statement}

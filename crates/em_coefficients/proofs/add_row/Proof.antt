@@ -10,7 +10,7 @@ use Rattle.number.proofs.Table.{fill-long}
 use Rattle.rows.specs.Steps.{precisionIn}
 use Rattle.rows.proofs.ByPlace.{row-label, precision-there}
 use Rattle.window.specs.declared.Time.{Time}
-use Rattle.window.proofs.Table.{order-at-most-7}
+use Rattle.window.proofs.Shape.{order-at-most-7}
 use Rattle.em_coefficients.specs.Steps.{distanceIn, Summed}
 use Rattle.em_coefficients.proofs.Parts.{distances-fit}
 use Rattle.em_coefficients.proofs.Sums.{summed-more, tables-long, sides-long, distance-there}

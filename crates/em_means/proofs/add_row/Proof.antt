@@ -7,7 +7,7 @@ use borrow.Author.Needs.{needs}
 use lib.ListN.{length}
 use Rattle.number.proofs.Table.{fill-long}
 use Rattle.window.specs.declared.Time.{Time}
-use Rattle.window.proofs.Table.{order-at-most-7}
+use Rattle.window.proofs.Shape.{order-at-most-7}
 use Rattle.rows.specs.Steps.{precisionIn}
 use Rattle.rows.proofs.ByPlace.{row-label, precision-there}
 use Rattle.em_means.specs.Steps.{lessLagsIn, Summed}

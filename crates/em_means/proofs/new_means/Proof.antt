@@ -8,7 +8,7 @@ use borrow.Author.Needs.{needs}
 use lib.ListN.{length, length-replicate}
 use Rattle.number.specs.Number.{zero⁺}
 use Rattle.number.proofs.Table.{row-before}
-use Rattle.window.proofs.Table.{order-at-most-7}
+use Rattle.window.proofs.Shape.{order-at-most-7}
 use Rattle.rows.specs.Steps.{precisionIn}
 use Rattle.em_means.specs.Steps.{lessLagsIn, Summed}
 use Rattle.em_means.proofs.Walk.{summed-none, means-by}

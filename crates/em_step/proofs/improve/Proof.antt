@@ -4,7 +4,7 @@ use mathlib.Core.Path.{_≡_, refl, _∙_}
 use native.Mathlib.Omega.{arith}
 use borrow.Author.Needs.{needs}
 use lib.ListN.{length}
-use Rattle.window.proofs.Table.{order-at-most-7}
+use Rattle.window.proofs.Shape.{order-at-most-7}
 use Rattle.rows.specs.Smoothed.{rowsIn}
 use Rattle.em_means.specs.Means.{newMeans}
 use Rattle.em_means.proofs.Walk.{means-are}

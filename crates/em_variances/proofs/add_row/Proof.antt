@@ -8,7 +8,7 @@ use lib.ListN.{length}
 use Rattle.number.proofs.Table.{fill-long}
 use Rattle.rows.proofs.ByPlace.{row-label}
 use Rattle.window.specs.declared.Time.{Time}
-use Rattle.window.proofs.Table.{order-at-most-7}
+use Rattle.window.proofs.Shape.{order-at-most-7}
 use Rattle.density.proofs.Tables.{block-below}
 use Rattle.em_variances.specs.Steps.{residualIn, Summed}
 use Rattle.em_variances.proofs.Sums.{summed-more, residual-there}

@@ -8,7 +8,7 @@ use borrow.Author.Needs.{needs}
 use lib.ListN.{length, length-replicate}
 use Rattle.number.specs.Number.{zero⁺}
 use Rattle.number.proofs.Table.{row-before}
-use Rattle.window.proofs.Table.{order-at-most-7}
+use Rattle.window.proofs.Shape.{order-at-most-7}
 use Rattle.em_variances.specs.Steps.{turned, residualIn, Summed}
 use Rattle.em_variances.proofs.Sums.{summed-none, variances-by}
 use Rattle.em_variances.proofs.new_variances.Statement.{statement}

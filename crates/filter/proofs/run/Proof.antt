@@ -3,7 +3,7 @@ use Prim.Native.Nat.{_<_, _≤_}
 use mathlib.Core.Path.{refl, sym}
 use native.Mathlib.Omega.{arith}
 use borrow.Author.Needs.{needs}
-use Rattle.window.proofs.Table.{order-at-most-7}
+use Rattle.window.proofs.Shape.{order-at-most-7}
 use Rattle.number.specs.Number.{zero⁺}
 use Rattle.filter.proofs.Kept.{refusal-stays}
 use Rattle.filter.proofs.Start.{regimes-within, counted, answer-refused, answer-of-rows}

@@ -6,7 +6,7 @@ use native.Mathlib.Omega.{arith}
 use borrow.Author.Needs.{needs}
 use Rattle.number.proofs.Table.{fill-long}
 use Rattle.window.specs.declared.Time.{Time}
-use Rattle.window.proofs.Table.{order-at-most-7}
+use Rattle.window.proofs.Shape.{order-at-most-7}
 use Rattle.filter.proofs.Weights.{weighed}
 use Rattle.filter.proofs.weigh_row.Statement.{statement}
 use Rattle.filter.proofs.weigh_row.Tie as tie

@@ -2,7 +2,7 @@
 use mathlib.Core.Path.{sym, _∙_}
 use borrow.Author.Needs.{needs}
 use Rattle.spec.specs.Spec.{specCheck, windowCount}
-use Rattle.window.proofs.Table.{order-at-most-7}
+use Rattle.window.proofs.Shape.{order-at-most-7}
 use Rattle.binding.proofs.Passed.{count-passed, shape-of}
 use Rattle.text_model.proofs.shaped.Statement.{statement}
 use Rattle.text_model.proofs.shaped.Tie as tie
