@@ -76,16 +76,15 @@ fn two(order: usize, a: f64, b: f64, c: f64, d: f64) -> MsarParams
 fn p1() -> bool
     ensures { λ r. ⌜ r ≡ true ⌝ }
 {
-    let powers = window::powers(3, 2);
-    let s0 = window::label(14, 0, 3, 2, &powers);
-    let s1 = window::label(14, 1, 3, 2, &powers);
-    let s2 = window::label(14, 2, 3, 2, &powers);
-    let after0 = window::successor(14, 0, 3, 2, &powers);
-    let after1 = window::successor(14, 1, 3, 2, &powers);
-    let after2 = window::successor(14, 2, 3, 2, &powers);
-    let before0 = window::predecessor(14, 0, 3, 2, &powers);
-    let before1 = window::predecessor(14, 1, 3, 2, &powers);
-    let before2 = window::predecessor(14, 2, 3, 2, &powers);
+    let s0 = window::label(14, 0, 3, 2);
+    let s1 = window::label(14, 1, 3, 2);
+    let s2 = window::label(14, 2, 3, 2);
+    let after0 = window::successor(14, 0, 3, 2, 9);
+    let after1 = window::successor(14, 1, 3, 2, 9);
+    let after2 = window::successor(14, 2, 3, 2, 9);
+    let before0 = window::predecessor(14, 0, 3, 2, 9);
+    let before1 = window::predecessor(14, 1, 3, 2, 9);
+    let before2 = window::predecessor(14, 2, 3, 2, 9);
     (s0 == 2)
         & (s1 == 1)
         & (s2 == 1)
@@ -100,11 +99,10 @@ fn p1() -> bool
 fn p2() -> bool
     ensures { λ r. ⌜ r ≡ true ⌝ }
 {
-    let powers = window::powers(2, 1);
-    let after0 = window::successor(1, 0, 2, 1, &powers);
-    let after1 = window::successor(1, 1, 2, 1, &powers);
-    let before0 = window::predecessor(1, 0, 2, 1, &powers);
-    let before1 = window::predecessor(1, 1, 2, 1, &powers);
+    let after0 = window::successor(1, 0, 2, 1, 2);
+    let after1 = window::successor(1, 1, 2, 1, 2);
+    let before0 = window::predecessor(1, 0, 2, 1, 2);
+    let before1 = window::predecessor(1, 1, 2, 1, 2);
     (after0 == 2) & (after1 == 3) & (before0 == 0) & (before1 == 2)
 }
 
@@ -205,9 +203,8 @@ fn p5() -> bool
     let q = two(1, 0.25, 0.25, 0.75, 0.75);
     let shares = stationary::stationary_shares(q);
     let values = shares.values;
-    let powers = window::powers(2, 1);
     let mut row = [0.0; 256];
-    prediction::first_row(q, &values, &powers, 4, &mut row);
+    prediction::first_row(q, &values, 4, &mut row);
     is(row[0], 0.0625) & is(row[1], 0.1875) & is(row[2], 0.1875) & is(row[3], 0.5625)
 }
 

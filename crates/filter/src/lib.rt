@@ -7,7 +7,7 @@ ghost use Rattle.number.specs.Number.{_⊘_, zero⁺};
 ghost use Rattle.number.specs.Table.{_!_, fillAt};
 ghost use Rattle.refusal.specs.Checks.{each};
 ghost use Rattle.refusal.specs.declared.Check.the-variants.{Passed, Failed};
-ghost use Rattle.window.specs.Shape.{Shape, powersOf};
+ghost use Rattle.window.specs.Shape.{Shape};
 ghost use Rattle.params.specs.declared.MsarParams.{MsarParams};
 ghost use Rattle.params.specs.Parameters.{k, p};
 ghost use Rattle.rows.specs.Rows.{windowsOf};
@@ -123,7 +123,6 @@ fn advance(
 fn each_row(
     q: MsarParams,
     shares: &[f64; 16],
-    powers: &[usize; 9],
     phis: &[f64; 112],
     deviations: &[f64; 256],
     logarithms: &[f64; 256],
@@ -136,14 +135,14 @@ fn each_row(
 ) -> Answer
     requires { ⌜ Shape (k q) (p q) ⌝ }
     requires { ⌜ (m ≡ windowsOf q) × (k q * power ≡ m) × (power ≡ k q ^ p q) × (p q + n ≡ length (now y)) × (length (now y) ≤ 4096) × (2 * (n * m) ≤ length (now work)) ⌝ }
-    requires { ⌜ (now powers ≡ powersOf (k q) (p q)) × (now steps ≡ fillAt 0 (stepAt q) m (replicate 256 zero⁺)) ⌝ }
+    requires { ⌜ now steps ≡ fillAt 0 (stepAt q) m (replicate 256 zero⁺) ⌝ }
     requires { ⌜ Scales q (k q) (p q) m (q .means) (now phis) (now deviations) (now logarithms) ⌝ }
     ensures answer { λ r. ⌜ r ≡ answerAfter (each n (likelihoodCheck q (now (y .entry)) (now (shares .entry)))) (loglikTo q (now (y .entry)) (now (shares .entry)) n) ⌝ }
     ensures same { λ _. ⌜ (length (now (work .exit)) ≡ length (now (work .entry))) × (drop (2 * (n * m)) (now (work .exit)) ≡ drop (2 * (n * m)) (now (work .entry))) ⌝ }
     ensures rows { λ r. ⌜ (r .check ≡ Passed → Held q (now (y .entry)) (now (shares .entry)) n m n (now (work .exit))) ⌝ }
 {
     let mut predicted = [0.0; 256];
-    prediction::first_row(q, shares, powers, m, &mut predicted);
+    prediction::first_row(q, shares, m, &mut predicted);
     let mut means = [0.0; 256];
     let mut weights = [0.0; 256];
     let mut loglik = 0.0;
@@ -209,7 +208,6 @@ pub fn run(
         return refused(r);
     }
     let shares = start.values;
-    let powers = window::powers(q.means_count, q.order);
     let phis = density::phis(q);
     let deviations = density::deviations(q, m);
     let logarithms = density::logarithms(&deviations, q.means_count, m);
@@ -217,7 +215,6 @@ pub fn run(
     each_row(
         q,
         &shares,
-        &powers,
         &phis,
         &deviations,
         &logarithms,

@@ -12,7 +12,7 @@ use Rattle.number.specs.Number.{_⊗_}
 use Rattle.number.specs.Table.{_!_, fillAt}
 use Rattle.number.proofs.Table.{fillAt-join}
 use Rattle.window.specs.Windows.{label, labels}
-use Rattle.window.specs.Shape.{Given, Shape}
+use Rattle.window.specs.Shape.{Shape, WindowNumber}
 use Rattle.window.proofs.Windows.{label-labels-any, label-below}
 use Rattle.params.specs.declared.MsarParams.{MsarParams}
 use Rattle.params.specs.Parameters.{P}
@@ -20,9 +20,9 @@ use Rattle.prediction.specs.Prediction.{firstTo, firstPrediction}
 use Rattle.prediction.specs.Steps.{firstAt, stepAt, sumBefore, laterAt}
 
 -- the labels of a window are below k
-pub label-small : {k p a l s : ℕ} {powers : List ℕ} → Given k p powers a → s ≡ label (labels k (suc p) a) l → l ≤ p → s < k
-label-small {k} {p} {a} {l} g e h =
-    rw e (label-below k (omega (arith, g .shape .low)) (suc p) a l (omega arith))
+pub label-small : {k p a l s : ℕ} → WindowNumber k p a → s ≡ label (labels k (suc p) a) l → l ≤ p → s < k
+label-small {k} {p} {a} {l} w e h =
+    rw e (label-below k (omega (arith, w .shape .low)) (suc p) a l (omega arith))
 
 -- s_0 and s_1 of window a
 pub newest : (k p a : ℕ) → label (labels k (suc p) a) 0 ≡ a % k

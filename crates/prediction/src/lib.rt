@@ -5,48 +5,35 @@ ghost use Prim.Native.Nat.{suc, _+_, _*_, _^_, _<_, _≤_};
 ghost use lib.ListN.{length, replicate};
 ghost use Rattle.number.specs.Number.{_⊗_, zero⁺};
 ghost use Rattle.number.specs.Table.{_!_, fillAt};
-ghost use Rattle.window.specs.Shape.{Shape, Given, powersOf};
+ghost use Rattle.window.specs.Shape.{Shape, WindowNumber};
 ghost use Rattle.params.specs.declared.MsarParams.{MsarParams};
 ghost use Rattle.params.specs.Parameters.{k, p};
 ghost use Rattle.prediction.specs.Steps.{firstAt, stepAt, sumBefore, laterAt};
 use params::MsarParams;
 
 // The first prediction of window a: the share of its oldest label, times the steps from there to its newest.
-fn first_of(
-    transition: &[f64; 256],
-    shares: &[f64; 16],
-    k: usize,
-    order: usize,
-    powers: &[usize; 9],
-    a: usize,
-) -> f64
-    requires { ⌜ Given k order (now powers) a ⌝ }
+fn first_of(transition: &[f64; 256], shares: &[f64; 16], k: usize, order: usize, a: usize) -> f64
+    requires { ⌜ WindowNumber k order a ⌝ }
     ensures { λ r. ⌜ ((q : MsarParams) → q .«means_count» ≡ k → q .order ≡ order → q .transition ≡ now (transition .entry) → r ≡ firstAt q (now (shares .entry)) a) ⌝ }
 {
-    let oldest = window::label(a, order, k, order, powers);
+    let oldest = window::label(a, order, k, order);
     let mut acc = shares[oldest];
     for l in 0..order {
-        let now = window::label(a, l, k, order, powers);
-        let before = window::label(a, l + 1, k, order, powers);
+        let now = window::label(a, l, k, order);
+        let before = window::label(a, l + 1, k, order);
         acc = acc * transition[now * k + before];
     }
     acc
 }
 
 // The first row of predictions.
-pub fn first_row(
-    q: MsarParams,
-    shares: &[f64; 16],
-    powers: &[usize; 9],
-    m: usize,
-    row: &mut [f64; 256],
-)
+pub fn first_row(q: MsarParams, shares: &[f64; 16], m: usize, row: &mut [f64; 256])
     requires { ⌜ Shape (k q) (p q) ⌝ }
-    requires { ⌜ (now powers ≡ powersOf (k q) (p q)) × (m ≡ k q ^ suc (p q)) × (length (now row) ≡ 256) ⌝ }
+    requires { ⌜ (m ≡ k q ^ suc (p q)) × (length (now row) ≡ 256) ⌝ }
     ensures { λ _. ⌜ now (row .exit) ≡ fillAt 0 (firstAt q (now (shares .entry))) m (now (row .entry)) ⌝ }
 {
     for a in 0..m {
-        row[a] = first_of(&q.transition, shares, q.means_count, q.order, powers, a);
+        row[a] = first_of(&q.transition, shares, q.means_count, q.order, a);
     }
 }
 

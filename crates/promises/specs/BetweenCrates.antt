@@ -11,7 +11,6 @@ use denote.Triple.Clauses.{Ended}
 use Rattle.number.proofs.of_whole as number·of_whole
 use Rattle.number.proofs.first_failing as number·first_failing
 use Rattle.number.proofs.copy as number·copy
-use Rattle.window.proofs.powers as window·powers
 use Rattle.window.proofs.label as window·label
 use Rattle.window.proofs.predecessor as window·predecessor
 use Rattle.window.proofs.successor as window·successor
@@ -64,7 +63,6 @@ pub record BetweenCrates (M : Type 1) : Type 2 where
   pub first-failing : One M number·first_failing.ended number·first_failing.clauses
   pub copy : One M number·copy.ended number·copy.clauses
   -- windows and times
-  pub powers : One M window·powers.ended window·powers.clauses
   pub label : One M window·label.ended window·label.clauses
   pub predecessor : One M window·predecessor.ended window·predecessor.clauses
   pub successor : One M window·successor.ended window·successor.clauses

@@ -4,9 +4,7 @@ pub mod Windows
 pub mod Neighbours
 -- the order, by the count of windows
 pub mod Shape
--- the table of powers
-pub mod Table
 -- the code's arithmetic
-pub mod Given
+pub mod Arithmetic
 -- labels now run round
 pub mod Round

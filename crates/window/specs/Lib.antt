@@ -1,6 +1,6 @@
 -- windows as lists of labels, and their numbers
 pub mod Windows
--- the table of powers, and what the functions ask of a window's number
+-- the shape of a model, and the numbers of its windows
 pub mod Shape
 -- rows and times
 pub mod Time

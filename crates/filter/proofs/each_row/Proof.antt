@@ -13,11 +13,11 @@ use Rattle.filter.proofs.each_row.Statement.{statement}
 use Rattle.filter.proofs.each_row.Tie as tie
 
 abbrev Inv-loop : tie.InvT-loop
-Inv-loop shares powers phis deviations logarithms steps power m y n work₀ q predicted₀ means₀ weights₀ loglik₀ i₀ work predicted means weights loglik i =
+Inv-loop shares phis deviations logarithms steps power m y n work₀ q predicted₀ means₀ weights₀ loglik₀ i₀ work predicted means weights loglik i =
     (i ≤ n) × (length predicted ≡ 256) × (length means ≡ 256) × (length weights ≡ 256) × Kept q y shares n m work₀ i predicted loglik work
 
 abbrev μ-loop : tie.MeasureT-loop
-μ-loop shares powers phis deviations logarithms steps power m y n work₀ q predicted₀ means₀ weights₀ loglik₀ i₀ work predicted means weights loglik i = n - i
+μ-loop shares phis deviations logarithms steps power m y n work₀ q predicted₀ means₀ weights₀ loglik₀ i₀ work predicted means weights loglik i = n - i
 
 -- the places of the calls
 abbrev start-of : tie.At-loop Inv-loop μ-loop → tie.Start Inv-loop μ-loop
@@ -92,7 +92,7 @@ loop-again c =
       longs w .0,
       fill-long _ _ _ (done .0) (rw (longs w .1) (small s)) ∙ longs w .1,
       kept-more (s .args .t1) _ _ _ _ _ (positive s) (s .pre .1 .0 .0) _ _ _ _ _ _ (l .inv .4) (weighed w) _ _ _ _ _ _
-          (sym usable-is ∙ not-false _ (c .before .before .before .before .before .before .before .if1 .left)) (s .pre .1 .1 .0 .1) (s .pre .1 .0 .2)
+          (sym usable-is ∙ not-false _ (c .before .before .before .before .before .before .before .if1 .left)) (s .pre .1 .1 .0) (s .pre .1 .0 .2)
           (done .0) (done .1 .0) (s .pre .1 .0 .1) (done .1 .1) (turn-of w .loop-test .taken) (s .pre .1 .0 .5) _ logarithm,
     )
 

@@ -11,17 +11,17 @@ use Rattle.filter.proofs.run.Statement.{statement}
 use Rattle.filter.proofs.run.Tie as tie
 
 -- the places of the calls
-abbrev powers-of : tie.After-deviations → tie.After-powers
-powers-of c = c .before .before
+abbrev start-of : tie.After-shares → tie.Start
+start-of c = c .before .before .before .before .before
 
-abbrev start-of : tie.After-powers → tie.Start
-start-of c = c .before .before .before .before .before .before
+abbrev shares-of : tie.After-deviations → tie.After-shares
+shares-of c = c .before .before
 
 abbrev deviations-of : tie.After-logarithms → tie.After-deviations
 deviations-of c = c .before .before
 
-abbrev logarithms-of : tie.After-each-row-arg → tie.After-logarithms
-logarithms-of c = c .before .before .before .before .before .before .before .before
+abbrev steps-of : tie.After-each-row-arg → tie.After-steps
+steps-of c = c .before .before .before .before .before .before
 
 positive : (c : tie.Start) → 0 < c .args .q .«means_count»
 positive c = omega (arith, c .pre .0 .low)
@@ -40,18 +40,18 @@ deviations-requires : tie.Need-deviations-requires
 deviations-requires c κs = let s = start-of (c .before) in (positive s, s .pre .0 .high, enough s .0, enough s .1)
 
 logarithms-requires : tie.Need-logarithms-requires
-logarithms-requires c κs = let s = start-of (powers-of (c .before)) in (positive s, s .pre .0 .high, enough s .0, enough s .1)
+logarithms-requires c κs = let s = start-of (shares-of (c .before)) in (positive s, s .pre .0 .high, enough s .0, enough s .1)
 
 each-row-requires : tie.Need-each-row-requires
 each-row-requires c κs =
-    let l = logarithms-of c in
+    let l = steps-of c .before in
     let d = deviations-of l in
-    let s = start-of (powers-of d) in (
+    let s = start-of (shares-of d) in (
       s .pre .0,
       (
         (s .pre .1 .0, counted (s .args .q .«means_count») (s .args .q .order) (s .pre .1 .0) (s .pre .1 .1), s .pre .1 .1, s .pre .1 .2, s .pre .1 .3, s .pre .1 .4),
         (
-          (powers-of d .powers .ensures, c .before .before .before .before .before .before .before .steps .ensures),
+          steps-of c .steps .ensures,
           record {
             parts = record { count-is = refl; order-is = refl; means-are = refl; phis-are = sym (d .before .phis .ensures) };
             deviations-are = d .deviations .ensures;
@@ -69,10 +69,10 @@ returns c =
 returns-2 : tie.Need-returns-2
 returns-2 c =
     let rows = c .before .before in
-    let powers = powers-of (deviations-of (logarithms-of (rows .before))) in
-    let s = start-of powers in
+    let shares = shares-of (deviations-of (steps-of (rows .before) .before)) in
+    let s = start-of shares in
     let done = rows .each-row .ensures in
-    (answer-of-rows (s .args .q) _ (s .args .start) _ (s .pre .1 .2) (powers .before .before .enum-told .given .1) (done .0), done .1)
+    (answer-of-rows (s .args .q) _ (s .args .start) _ (s .pre .1 .2) (shares .before .enum-told .given .1) (done .0), done .1)
 
 pub run-spec : {M : Type 1} → statement M
 run-spec =
@@ -82,7 +82,6 @@ run-spec =
     (λ c κs. search needs)
     returns
     (λ c. search needs)
-    (λ c κs. search needs)
     phis-requires
     deviations-requires
     logarithms-requires

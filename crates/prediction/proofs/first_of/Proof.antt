@@ -12,11 +12,11 @@ use Rattle.prediction.proofs.first_of.Statement.{statement}
 use Rattle.prediction.proofs.first_of.Tie as tie
 
 abbrev Inv-loop : tie.InvT-loop
-Inv-loop transition shares k order powers a oldest acc₀ l₀ acc l =
+Inv-loop transition shares k order a oldest acc₀ l₀ acc l =
     (l ≤ order) × ((q : MsarParams) → q .«means_count» ≡ k → q .order ≡ order → q .transition ≡ transition → acc ≡ firstTo q shares (labels k (suc order) a) l)
 
 abbrev μ-loop : tie.MeasureT-loop
-μ-loop transition shares k order powers a oldest acc₀ l₀ acc l = order - l
+μ-loop transition shares k order a oldest acc₀ l₀ acc l = order - l
 
 -- the labels are below k, and k is at most 16
 oldest-small : (c : tie.After-label Inv-loop μ-loop) → c .label .result < 16

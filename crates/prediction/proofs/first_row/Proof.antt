@@ -11,16 +11,16 @@ use Rattle.prediction.proofs.first_row.Statement.{statement}
 use Rattle.prediction.proofs.first_row.Tie as tie
 
 abbrev Inv-loop : tie.InvT-loop
-Inv-loop shares powers m row₀ q a₀ row a = (a ≤ m) × (length row ≡ length row₀) × (row ≡ fillAt 0 (firstAt q shares) a row₀)
+Inv-loop shares m row₀ q a₀ row a = (a ≤ m) × (length row ≡ length row₀) × (row ≡ fillAt 0 (firstAt q shares) a row₀)
 
 abbrev μ-loop : tie.MeasureT-loop
-μ-loop shares powers m row₀ q a₀ row a = m - a
+μ-loop shares m row₀ q a₀ row a = m - a
 
 loop-holds : tie.Need-loop-holds Inv-loop μ-loop
 loop-holds c = (omega arith, refl, fillAt-none _ _ _)
 
 first-of-requires : tie.Need-first-of-requires Inv-loop μ-loop
-first-of-requires c κs = record { shape = c .before .before .before .before .pre .0; table = c .before .before .before .before .pre .1 .0; window = omega (arith, c .before .before .before .before .pre .1 .1) }
+first-of-requires c κs = record { shape = c .before .before .before .before .pre .0; below = omega (arith, c .before .before .before .before .pre .1 .0) }
 
 loop-again : tie.Need-loop-again Inv-loop μ-loop
 loop-again c = (

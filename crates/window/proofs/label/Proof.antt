@@ -1,21 +1,43 @@
--- `label`: digit l of a to the base k.
+-- `label`: a divided l times by k, and the remainder.
+use Prim.Native.Nat.{_/_, _-_, _^_, _≤_}
+use mathlib.Core.Path.{_≡_}
 use native.Mathlib.Omega.{arith}
 use borrow.Author.Needs.{needs}
-use Rattle.window.proofs.Given.{order-small, power-positive, label-is}
+use Rattle.window.proofs.Arithmetic.{divided-none, divided-more, k-positive, label-is}
 use Rattle.window.proofs.label.Statement.{statement}
 use Rattle.window.proofs.label.Tie as tie
 
-mul-result : tie.Need-mul-result
-mul-result c = omega (arith, order-small (c .pre .0), c .pre .1)
+abbrev Inv-loop : tie.InvT-loop
+Inv-loop a l k order older₀ i₀ older i = (i ≤ l) × (older ≡ a / k ^ i)
 
-element-copy-out-result : tie.Need-element-copy-out-result
-element-copy-out-result c = omega (arith, order-small (c .pre .0), c .pre .1)
+abbrev μ-loop : tie.MeasureT-loop
+μ-loop a l k order older₀ i₀ older i = l - i
 
-div-result : tie.Need-div-result
-div-result c = power-positive (c .before .pre .0) _ (c .before .pre .1)
+loop-holds : tie.Need-loop-holds Inv-loop μ-loop
+loop-holds c = (omega arith, divided-none _ _)
 
-returns : tie.Need-returns
-returns c = label-is (c .before .pre .0) _ (c .before .pre .1)
+div-older : tie.Need-div-older Inv-loop μ-loop
+div-older c = k-positive (c .before .before .pre)
+
+loop-again : tie.Need-loop-again Inv-loop μ-loop
+loop-again c = (omega arith, divided-more _ _ _ (c .before .loop .inv .1))
+
+rem-result : tie.Need-rem-result Inv-loop μ-loop
+rem-result c = k-positive (c .before .before .pre)
+
+returns : tie.Need-returns Inv-loop μ-loop
+returns c = let all : c .before .loop .i ≡ c .before .before .args .l = omega arith in label-is (c .before .before .pre) _ (rw all at (c .before .loop .inv .1))
 
 pub label-spec : {M : Type 1} → statement M
-label-spec = tie.close (tie.spec mul-result element-copy-out-result div-result (λ c. search needs) returns)
+label-spec =
+    tie.close
+    (tie.spec
+    Inv-loop
+    μ-loop
+    loop-holds
+    div-older
+    (λ c. search needs)
+    (λ c. search needs)
+    loop-again
+    rem-result
+    returns)
