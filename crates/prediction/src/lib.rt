@@ -18,9 +18,12 @@ fn first_of(transition: &[f64; 256], shares: &[f64; 16], k: usize, order: usize,
 {
     let oldest = window::label(a, order, k, order);
     let mut acc = shares[oldest];
-    for l in 0..order {
-        let now = window::label(a, l, k, order);
-        let before = window::label(a, l + 1, k, order);
+    // a without its newest labels, one fewer at each step
+    let mut older = a;
+    for _ in 0..order {
+        let now = older % k;
+        older = older / k;
+        let before = older % k;
         acc = acc * transition[now * k + before];
     }
     acc
