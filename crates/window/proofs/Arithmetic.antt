@@ -4,6 +4,7 @@ use mathlib.Core.Path.{_≡_, sym}
 use native.Mathlib.Nat.{pow-suc, pow-zero, div-one, div-div-eq-div-mul, one-le-pow}
 use native.Mathlib.Numerals.{add-one}
 use native.Mathlib.Omega.{arith}
+use Rattle.number.proofs.Table.{cell-below}
 use Rattle.window.specs.Windows.{label, labels, number, successor, predecessor}
 use Rattle.window.specs.Shape.{WindowNumber}
 use Rattle.window.proofs.Windows.{label-labels-any}
@@ -36,9 +37,12 @@ module _ {k p a : ℕ} (w : WindowNumber k p a) where
     pub successor-is : (r : ℕ) → r + a % power * k ≡ number k (successor p (labels k (suc p) a) r)
     successor-is r = rw e (sym (number-successor k p k-positive a r))
 
-    pub predecessor-small : (x : ℕ) → x < k → a / k + x * power < 256
-    predecessor-small x h =
-        rw (predecessor-is x) (omega (arith, predecessor-below k p k-positive a x h, w .shape .few))
+    -- also with k for k^p, so that this slip is refused for its value and not for its size
+    pub predecessor-small : (x : ℕ) → x < k → (a / k + x * power < 256) × (x * k < 256)
+    predecessor-small x h = (
+      rw (predecessor-is x) (omega (arith, predecessor-below k p k-positive a x h, w .shape .few)),
+      omega (arith, cell-below k x 0 (w .shape .high) h k-positive),
+    )
 
     pub successor-small : (r : ℕ) → r < k → r + a % power * k < 256
     successor-small r h = rw (successor-is r) (omega (arith, successor-below k p k-positive a r h, w .shape .few))

@@ -22,9 +22,6 @@ div-older c = k-positive (c .before .before .pre)
 loop-again : tie.Need-loop-again Inv-loop μ-loop
 loop-again c = (omega arith, divided-more _ _ _ (c .before .loop .inv .1))
 
-rem-result : tie.Need-rem-result Inv-loop μ-loop
-rem-result c = k-positive (c .before .before .pre)
-
 returns : tie.Need-returns Inv-loop μ-loop
 returns c = let all : c .before .loop .i ≡ c .before .before .args .l = omega arith in label-is (c .before .before .pre) _ (rw all at (c .before .loop .inv .1))
 
@@ -39,5 +36,5 @@ label-spec =
     (λ c. search needs)
     (λ c. search needs)
     loop-again
-    rem-result
+    (λ c. search needs)
     returns)

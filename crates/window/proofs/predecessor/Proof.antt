@@ -6,10 +6,10 @@ use Rattle.window.proofs.predecessor.Statement.{statement}
 use Rattle.window.proofs.predecessor.Tie as tie
 
 mul-result : tie.Need-mul-result
-mul-result c = omega (arith, predecessor-small (c .pre .0) (c .pre .1 .1) _ (c .pre .1 .0))
+mul-result c = let h = predecessor-small (c .pre .0) (c .pre .1 .1) _ (c .pre .1 .0) in omega (arith, h .0, h .1)
 
 add-result : tie.Need-add-result
-add-result c = omega (arith, predecessor-small (c .pre .0) (c .pre .1 .1) _ (c .pre .1 .0))
+add-result c = let h = predecessor-small (c .pre .0) (c .pre .1 .1) _ (c .pre .1 .0) in omega (arith, h .0, h .1)
 
 returns : tie.Need-returns
 returns c = predecessor-is (c .pre .0) (c .pre .1 .1) _
