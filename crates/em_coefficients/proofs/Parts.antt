@@ -4,7 +4,7 @@ use mathlib.Core.Path.{_≡_, _∙_}
 use mathlib.Core.Bool.{true}
 use mathlib.Core.List.{List}
 use native.Mathlib.Numerals.{add-one}
-use native.Mathlib.Nat.{suc-mul, zero-mul, mul-le-mul, mul-le-mul-right, mod-lt, div-lt-iff-lt-mul, pow-zero, pow-suc, div-one, div-div-eq-div-mul}
+use native.Mathlib.Nat.{suc-mul, zero-mul, mul-le-mul, mul-le-mul-right, mod-lt, div-lt-iff-lt-mul}
 use native.Mathlib.Omega.{arith}
 use lib.Arith.{digits-div, digits-mod}
 use lib.ListN.{length, set, replicate}
@@ -153,12 +153,6 @@ module _ {k order : ℕ} (hk : k ≤ 16) (ho : order ≤ 7) where
   distance-within l s hl hs = let h : l < order + 1 = omega arith in omega (arith, distances-fit, row-before k l (order + 1) h)
 
 module _ (k a : ℕ) where
-  pub rest-first : a ≡ a / k ^ 0
-  rest-first = rw (pow-zero, div-one)
-
-  pub rest-next : (l : ℕ) {rest : ℕ} → rest ≡ a / k ^ l → rest / k ≡ a / k ^ (l + 1)
-  rest-next l e = rw (e, add-one l, pow-suc k l) (div-div-eq-div-mul a (k ^ l) k)
-
   pub distance-read : (order : ℕ) (distances : List Float) (l : ℕ) {rest : ℕ} → l ≤ order → rest ≡ a / k ^ l → distances ! (l * k + rest % k) ≡ distanceOf k order distances a l
   unfolding distanceOf
   distance-read order distances l hl e = let h : l < suc order = omega arith in rw (e, label-labels k (suc order) a l h)

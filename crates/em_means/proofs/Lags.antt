@@ -3,7 +3,7 @@ use Prim.Native.Nat.{ℕ, zero, suc, _+_, _-_, _*_, _/_, _%_, _^_, _<_, _≤_}
 use mathlib.Core.Path.{_≡_, refl, sym, _∙_}
 use mathlib.Core.List.{List}
 use native.Mathlib.Numerals.{add-one}
-use native.Mathlib.Nat.{pow-suc, pow-zero, one-mul, mul-le-mul, mod-lt, div-div-eq-div-mul, div-add-mod', div-le-self}
+use native.Mathlib.Nat.{mul-le-mul, mod-lt, div-add-mod', div-le-self}
 use native.Mathlib.Omega.{arith}
 use borrow.Author.Tests.{eq-eqb, ne-eqb}
 use lib.Arith.{digits-lt}
@@ -33,12 +33,6 @@ phi-within l s order count h o i j = omega (arith, digits-lt h i, mul-le-mul o j
 -- ---- a sensitivity, lag by lag; `rest` has the labels from lag l + 1 on
 
 module _ (count a : ℕ) where
-  pub rest-first : a / count ≡ a / count ^ suc 0
-  rest-first = rw (pow-suc count 0, pow-zero, one-mul)
-
-  pub rest-next : (l : ℕ) {rest : ℕ} → rest ≡ a / count ^ suc l → rest / count ≡ a / count ^ suc (l + 1)
-  rest-next l d = rw (d, add-one l, pow-suc count (suc l)) (div-div-eq-div-mul a (count ^ suc l) count)
-
   pub rest-below : (l : ℕ) {rest : ℕ} → rest ≡ a / count ^ suc l → rest ≤ a
   rest-below l d = rw d (div-le-self a (count ^ suc l))
 

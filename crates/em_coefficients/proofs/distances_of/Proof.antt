@@ -1,7 +1,8 @@
 -- The distances of a window, label by label.
-use Rattle.em_coefficients.proofs.Parts.{distance-within, rest-first, rest-next, distance-read}
+use Rattle.em_coefficients.proofs.Parts.{distance-within, distance-read}
 use Rattle.em_coefficients.specs.Steps.{distanceOf}
 use Rattle.number.proofs.Table.{fillAt-none, fill-more}
+use Rattle.window.proofs.Arithmetic.{divided-none, divided-more}
 use Rattle.number.specs.Table.{fillAt}
 use native.Mathlib.Nat.{mod-lt}
 use Prim.Native.Nat.{_+_, _*_, _-_, _/_, _%_, _^_, _<_, _≤_}
@@ -25,7 +26,7 @@ within c =
     distance-within (start .pre .1) (start .pre .2) _ _ lag (mod-lt _ (start .pre .0))
 
 loop-holds : tie.Need-loop-holds Inv-loop μ-loop
-loop-holds c = (omega arith, rest-first _ _, fillAt-none 0 _ _)
+loop-holds c = (omega arith, divided-none _ _, fillAt-none 0 _ _)
 
 mul-x : tie.Need-mul-x Inv-loop μ-loop
 mul-x c = omega (arith, within c)
@@ -44,7 +45,7 @@ loop-again c =
     let start = c .before .before .before in
     let inv = c .before .before .loop .inv in
     let lag : c .before .before .loop .l ≤ start .args .order = omega (arith, c .before .loop-test .taken) in
-    (omega arith, rest-next _ _ _ (inv .1), fill-more _ _ _ (inv .2) (distance-read (start .args .k) (start .args .a) (start .args .order) (start .args .distances .now) _ lag (inv .1)) (omega arith))
+    (omega arith, divided-more _ _ _ (inv .1), fill-more _ _ _ (inv .2) (distance-read (start .args .k) (start .args .a) (start .args .order) (start .args .distances .now) _ lag (inv .1)) (omega arith))
 
 returns : tie.Need-returns Inv-loop μ-loop
 returns c = let e : c .before .loop .l ≡ c .before .before .args .order + 1 = omega arith in rw e at (c .before .loop .inv .2)

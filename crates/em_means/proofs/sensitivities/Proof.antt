@@ -4,8 +4,9 @@ use mathlib.Core.Path.{_≡_, subst}
 use native.Mathlib.Nat.{mod-lt, div-mul-le-self}
 use native.Mathlib.Omega.{arith}
 use borrow.Author.Needs.{needs}
+use Rattle.window.proofs.Arithmetic.{divided-none, divided-more}
 use Rattle.em_means.specs.Steps.{sensitivitiesOf}
-use Rattle.em_means.proofs.Lags.{left-is, phi-within, rest-first, rest-next, rest-below, row-now, row-lag}
+use Rattle.em_means.proofs.Lags.{left-is, phi-within, rest-below, row-now, row-lag}
 use Rattle.em_means.proofs.sensitivities.Statement.{statement}
 use Rattle.em_means.proofs.sensitivities.Tie as tie
 
@@ -28,7 +29,7 @@ phi-in c = phi-within _ _ _ _ (c .loop-test .taken) (c .before .before .pre .2) 
 loop-holds : tie.Need-loop-holds Inv-loop μ-loop
 loop-holds c =
     let a = c .args in
-    (omega arith, rest-first _ _, row-now (a .k) (a .a) (a .phis .now) (c .pre .3) (c .pre .4) (c .pre .0) (c .pre .1))
+    (omega arith, divided-more _ _ 0 (divided-none _ _), row-now (a .k) (a .a) (a .phis .now) (c .pre .3) (c .pre .4) (c .pre .0) (c .pre .1))
 
 mul-r : tie.Need-mul-r Inv-loop μ-loop
 mul-r c = omega (arith, div-mul-le-self (c .before .loop .rest) (c .before .before .args .k), rest-below _ _ _ (c .before .loop .inv .1), c .before .before .good)
@@ -64,9 +65,10 @@ loop-again : tie.Need-loop-again Inv-loop μ-loop
 loop-again c =
     let a = c .before .before .before .before .args in
     let w = c .before .before .before .loop in
-    let h = c .before .before .before .before .pre in (
+    let h = c .before .before .before .before .pre in
+    let next : suc (w .l) + 1 ≡ suc (w .l + 1) = omega arith in (
       omega arith,
-      rest-next _ _ _ (w .inv .1),
+      rw next at (divided-more _ _ _ (w .inv .1)),
       row-lag (a .k) (a .a) (a .phis .now) (h .3) (w .l) (w .inv .2) (w .inv .1) (left-is _ _) (label-in (c .before .before)) (h .1),
     )
 
