@@ -18,12 +18,12 @@ fn first_of(transition: &[f64; 256], shares: &[f64; 16], k: usize, order: usize,
 {
     let oldest = window::label(a, order, k, order);
     let mut acc = shares[oldest];
-    // a without its newest labels, one fewer at each step
-    let mut older = a;
+    // what is left of a: a step drops the newest label
+    let mut rest = a;
     for _ in 0..order {
-        let now = older % k;
-        older = older / k;
-        let before = older % k;
+        let now = rest % k;
+        rest = rest / k;
+        let before = rest % k;
         acc = acc * transition[now * k + before];
     }
     acc

@@ -1,5 +1,5 @@
 -- The code's arithmetic on a window's number is that of the lists of labels, and stays small. Assumes nothing.
-use Prim.Native.Nat.{ℕ, suc, _+_, _*_, _/_, _%_, _^_, _<_, _≤_}
+use Prim.Native.Nat.{ℕ, suc, _+_, _*_, _/_, _%_, _^_, _<_}
 use mathlib.Core.Path.{_≡_, sym}
 use native.Mathlib.Nat.{pow-suc, pow-zero, div-one, div-div-eq-div-mul, one-le-pow}
 use native.Mathlib.Numerals.{add-one}
@@ -10,19 +10,19 @@ use Rattle.window.specs.Shape.{WindowNumber}
 use Rattle.window.proofs.Windows.{label-labels-any}
 use Rattle.window.proofs.Neighbours.{number-successor, number-predecessor, successor-below, predecessor-below}
 
--- ---- dividing by k, once and once more
+-- ---- dividing by k: not yet, and once more
 
 pub divided-none : (k a : ℕ) → a ≡ a / k ^ 0
 divided-none k a = rw (pow-zero, div-one)
 
-pub divided-more : (k a i : ℕ) {older : ℕ} → older ≡ a / k ^ i → older / k ≡ a / k ^ (i + 1)
+pub divided-more : (k a i : ℕ) {rest : ℕ} → rest ≡ a / k ^ i → rest / k ≡ a / k ^ (i + 1)
 divided-more k a i e = rw (e, add-one, pow-suc, div-div-eq-div-mul)
 
 module _ {k p a : ℕ} (w : WindowNumber k p a) where
   pub k-positive : 0 < k
   k-positive = omega (arith, w .shape .low)
 
-  pub label-is : (l : ℕ) {older : ℕ} → older ≡ a / k ^ l → older % k ≡ label (labels k (suc p) a) l
+  pub label-is : (l : ℕ) {rest : ℕ} → rest ≡ a / k ^ l → rest % k ≡ label (labels k (suc p) a) l
   label-is l e = rw e (sym (label-labels-any k k-positive (suc p) a l (w .below)))
 
   -- ---- the windows before and after, by k^p

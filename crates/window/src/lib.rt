@@ -18,19 +18,20 @@ pub fn time_of(row: Row, order: usize) -> Time
     Time(order + row.0)
 }
 
-// The label l readings ago of window a: l divisions by k drop the labels since then. Past a's oldest it is 0.
-// The order stands here for the contract, which speaks of a's order + 1 labels.
+// The label l readings ago of window a, and 0 one past its oldest: l divisions by k drop the labels since then.
+// Here and below the order stands for the contract, which speaks of a's order + 1 labels.
 pub fn label(a: usize, l: usize, k: usize, order: usize) -> usize
     requires { ⌜ WindowNumber k order a ⌝ }
+    requires { ⌜ l ≤ suc order ⌝ }
     ensures { λ s. ⌜ s ≡ label (labels k (suc order) a) l ⌝ }
 {
-    let mut older = a;
+    let mut rest = a;
     let mut i = 0;
     while i < l {
-        older = older / k;
+        rest = rest / k;
         i += 1;
     }
-    older % k
+    rest % k
 }
 
 // The label now of the window that follows window a in number, where a's is s: labels now run round.

@@ -13,13 +13,13 @@ use Rattle.prediction.proofs.first_of.Statement.{statement}
 use Rattle.prediction.proofs.first_of.Tie as tie
 
 abbrev Inv-loop : tie.InvT-loop
-Inv-loop transition shares k order a oldest acc₀ older₀ l₀ acc older l =
+Inv-loop transition shares k order a oldest acc₀ rest₀ l₀ acc rest l =
     (l ≤ order)
-    × (older ≡ a / k ^ l)
+    × (rest ≡ a / k ^ l)
     × ((q : MsarParams) → q .«means_count» ≡ k → q .order ≡ order → q .transition ≡ transition → acc ≡ firstTo q shares (labels k (suc order) a) l)
 
 abbrev μ-loop : tie.MeasureT-loop
-μ-loop transition shares k order a oldest acc₀ older₀ l₀ acc older l = order - l
+μ-loop transition shares k order a oldest acc₀ rest₀ l₀ acc rest l = order - l
 
 -- the oldest label is below k, and k is at most 16
 oldest-small : (c : tie.After-label Inv-loop μ-loop) → c .label .result < 16
@@ -42,7 +42,7 @@ start-of c = c .before .before .before .before
 positive : (c : tie.In-loop Inv-loop μ-loop) → 0 < start-of c .args .k
 positive c = k-positive (start-of c .pre)
 
-places : (c : tie.In-loop Inv-loop μ-loop) → let k = start-of c .args .k in let older = c .before .loop .older in (older % k * k + older / k % k < 256) × (older / k % k * k + older % k < 256)
+places : (c : tie.In-loop Inv-loop μ-loop) → let k = start-of c .args .k in let rest = c .before .loop .rest in (rest % k * k + rest / k % k < 256) × (rest / k % k * k + rest % k < 256)
 places c = steps-below (start-of c .pre .shape) _
 
 mul-acc-2 : tie.Need-mul-acc-2 Inv-loop μ-loop
