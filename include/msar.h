@@ -26,9 +26,9 @@ extern "C" {
 #endif
 
 /* The version of the library that this file goes with; `msar --version` says it too. */
-#define MSAR_VERSION "0.1.0"
+#define MSAR_VERSION "0.2.0"
 #define MSAR_VERSION_MAJOR 0
-#define MSAR_VERSION_MINOR 1
+#define MSAR_VERSION_MINOR 2
 #define MSAR_VERSION_PATCH 0
 
 /* ---- sizes
@@ -133,7 +133,8 @@ enum msar_refusal {
     MSAR_BAD_SHAPE = 20,            /* the parameters are not of the spec's shape */
 
     /* the run */
-    MSAR_SINGULAR = 21,             /* a system of equations is singular; place: 0 shares, 1 means, 2 AR coefficients */
+    MSAR_SINGULAR = 21,             /* a system of equations is singular; place: 0 shares, 1 means, 2 AR coefficients,
+                                       value: its first column without a pivot, a label, or of AR coefficients lag-1 */
     MSAR_BAD_SHARE = 22,            /* a share is not finite or below -1e-9; place: its label, value: the share */
     MSAR_BAD_LIKELIHOOD = 23,       /* a row's likelihood is not finite or not above 0; place: the row */
 

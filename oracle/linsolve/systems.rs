@@ -5,6 +5,7 @@
 use std::fs::File;
 use std::io::{BufWriter, Write};
 
+mod column;
 mod linsolve;
 
 /// Stands in for the file error.rs, which is not among the sources. linsolve.rs makes this variant and no other.
@@ -646,7 +647,7 @@ fn record(s: System, given: &mut impl Write, answered: &mut impl Write) -> std::
     for x in s.a.iter().chain(&s.b) {
         writeln!(given, "{:016x}", x.to_bits())?;
     }
-    match linsolve::solve(s.a, s.b, s.n, TAG) {
+    match linsolve::solve(s.a.clone(), s.b, s.n, TAG) {
         Ok(x) => {
             writeln!(answered, "solved")?;
             for v in x {
@@ -656,7 +657,8 @@ fn record(s: System, given: &mut impl Write, answered: &mut impl Write) -> std::
         }
         Err(error::RegimeError::Singular { what }) => {
             assert_eq!(what, TAG);
-            writeln!(answered, "singular")?;
+            let refuses = |a: Vec<f64>| linsolve::solve(a, vec![0.0; s.n], s.n, TAG).is_err();
+            writeln!(answered, "singular {}", column::stopped_at(&s.a, s.n, refuses))?;
             Ok(false)
         }
     }

@@ -23,7 +23,7 @@ command -v rustc >/dev/null || { echo "$0: rustc is missing" >&2; exit 2; }
 room=$(mktemp -d)
 trap 'rm -rf "$room"' EXIT
 
-cp "$1/linsolve.rs" "$here/systems.rs" "$room/"
+cp "$1/linsolve.rs" "$here"/{systems,column}.rs "$room/"
 # with debug assertions linsolve.rs tests the lengths that it is handed; it has functions that are not used here
 rustc --edition 2021 -C opt-level=3 -C debug-assertions=on -A dead_code -o "$room/systems" "$room/systems.rs"
 "$room/systems" "$folder" "$seed" "$rounds"

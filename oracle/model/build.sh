@@ -3,8 +3,8 @@
 # oracle/model/build.sh SOURCES FOLDER
 # SOURCES: the folder with model.rs, params.rs, spec.rs, linsolve.rs; they are never copied into the repository.
 # FOLDER: a scratch folder outside the repository. It gets
-#   routed/oracle     root, logarithm and exponential are oracle/shim/fm.rs; the places that the Rust's errors do not say, and
-#                     how often the filter began, are written down
+#   routed/oracle     root, logarithm and exponential are oracle/shim/fm.rs; the places and columns that the Rust's errors do not
+#                     say, and how often the filter began, are written down
 #   untouched/oracle  the sources byte for byte, but for lines at the end of model.rs
 set -euo pipefail
 
@@ -43,13 +43,16 @@ route() { # MODEL
     done
 }
 
-# Writes down that the filter begins, the label of a refusal 22 and the row of a refusal 23.
+# Writes down that the filter begins, the label of a refusal 22, the row of a refusal 23 and the column of a refusal 21.
 note_model() { # MODEL
     sed -E -i \
         -e 's/^( *)for &p in &pi \{$/\1for (label, \&p) in pi.iter().enumerate() {/' \
+        -e 's/^use crate::linsolve::solve;$/use crate::solver::solve;/' \
         -e '/^ *if !\(p\.is_finite\(\) && p >= -1e-9\) \{$/ s/$/ crate::met::at(label, p);/' \
         -e '/^ *if !\(lik_t\.is_finite\(\) && lik_t > 0\.0\) \{$/ s/$/ crate::met::at(t_idx, 0.0);/' \
         -e 's/^( *)self\.check_params\(params\)\?;$/\1crate::met::began(); self.check_params(params)?;/' "$1"
+    stands "$1" 1 'use crate::solver::solve;'
+    stands "$1" 0 'linsolve'
     stands "$1" 1 'for (label, &p) in pi.iter().enumerate() {'
     stands "$1" 1 'crate::met::at(label, p);'
     stands "$1" 1 'crate::met::at(t_idx, 0.0);'
@@ -82,7 +85,7 @@ for flavour in routed untouched; do
     for name in model params spec linsolve; do
         cat "$sources/$name.rs" >"$room/src/$name.rs"
     done
-    cp "$here"/standins/{lib,error,results,met}.rs "$here/../shim/fm.rs" "$room/src/"
+    cp "$here"/standins/{lib,error,results,met,solver}.rs "$here"/../{shim/fm,linsolve/column}.rs "$room/src/"
     if [[ $flavour == routed ]]; then
         route "$room/src/model.rs"
         note_model "$room/src/model.rs"

@@ -3,16 +3,19 @@ Ends with status 1 where a refusal of document 01 that these calls can give, a p
 import sys
 from collections import Counter
 
-from protocol import TAKES, number, ran, read_answers, read_heads, refusal_of, with_memory
+from protocol import TAKES, ZERO, number, ran, read_answers, read_heads, refusal_of, with_memory
 
 HANDED_IN = [*range(1, 8), *range(10, 19), 20]
 PAIRS = [(k, p) for k in range(2, 17) for p in range(8) if k ** (p + 1) <= 256]
 # What document 01 lets these calls refuse. 26 is not among it: a likelihood that 23 lets pass has a finite logarithm, and so have
 # the sums of 4,096 of them.
 REFUSALS = [str(n) for n in HANDED_IN] + ['21', '22', '23']
-OF_FITS = ([str(n) for n in HANDED_IN + [24, 25]] + ['25 with infinity']
-           + ['%s of a step' % n for n in ('11', '13', '14', '15', '16 with 0', '16 with infinity', '21 at 1', '21 at 2')]
-           + ['%s of the start' % n for n in ('21 at 0', '22', '23')] + ['%s of a later pass' % n for n in ('21 at 0', '22', '23')]
+# the shares' first column has a one in its last row, so that no 21 at place 0 carries column 0
+OF_FILTER = ['21 at 0, column above 0', '22', '23']
+OF_STEP = (['11', '13', '14', '15', '16 with 0', '16 with infinity']
+           + ['21 at %d, column %s' % pair for pair in [(1, '0'), (1, 'above 0'), (2, '0'), (2, 'above 0')]])
+OF_FITS = ([str(n) for n in HANDED_IN + [24, 25]] + ['25 with infinity'] + ['%s of a step' % n for n in OF_STEP]
+           + ['%s of the start' % n for n in OF_FILTER] + ['%s of a later pass' % n for n in OF_FILTER]
            + ['no pass', 'all passes', 'converged'])
 
 
@@ -31,12 +34,12 @@ def fit_outcome(answer):
         return 'converged' if answer['converged'] == '1' else 'all passes' if answer['iterations'] != '0' else 'no pass'
     said, place, value = answer['refusal'].split()
     if said == '21':
-        said += ' at ' + place
+        said += ' at %s, column %s' % (place, '0' if value == ZERO else 'above 0')
     if said == '16' and 'running' in answer or said == '25':
-        said += {'7ff0000000000000': ' with infinity', '0' * 16: ' with 0' if said == '16' else ''}.get(value, '')
+        said += {'7ff0000000000000': ' with infinity', ZERO: ' with 0' if said == '16' else ''}.get(value, '')
     if 'running' not in answer:
         return said
-    if said not in ('21 at 0', '22', '23'):
+    if said not in OF_FILTER:
         return said + ' of a step'
     return said + (' of the start' if answer['running'] == '1' else ' of a later pass')
 

@@ -69,6 +69,16 @@ KNOWN = [  # columns, means, AR coefficients, variances, readings, passes
     ([[1.0000000004, 1e-09], [0.5, 0.5]], [1.5, 0.0], [0.0], [TINY, 1.0], [0.0, 1.5], 1),
     ([[0.5, 0.5, 0.0], [1e-10, 1.0000000005, 0.0], [0.0, 0.9, 0.1]], [2.0, 1.0, 3.0], [0.0], [1.0, TINY, 1.0], [0.0, 1.0], 1),
 ]
+# 21 at a column above 0: the order, and the rest as above
+LATER_COLUMNS = [
+    # place 1: weights over a variance are below 1e-300, of the second regime and of the third
+    (1, EVEN, [0.0, 1.0], [0.0], [1e290, 1e305], [1.0, 0.0], 1),
+    (1, [[0.5, 0.25, 0.25], [0.25, 0.5, 0.25], [0.25, 0.25, 0.5]], [0.0, 1.0, 2.0], [0.0], [1e290, 1e290, 1e305], [1.0, 0.0], 1),
+    # place 2: one row, so that the lags' products are multiples of each other, and a ridge below 1e-300; coefficients that the
+    # regimes share, and their own
+    (2, EVEN, [0.0, 0.0], [0.5, 0.25], [1.0], [1e-147, 2e-147, 4e-147], 1),
+    (2, EVEN, [0.0, 0.0], [0.5, 0.25, 0.5, 0.25], [1.0], [1e-147, 2e-147, 4e-147], 1),
+]
 # 14: a share below zero, and a count of a column that two rows cancel but for some 1e-10, so that the column's two sums differ by
 # more than 1e-8. A bisection over one reading or mean finds such a count. Second mean, and the rest as above; the first is 0.
 CANCELLED = [
@@ -83,9 +93,9 @@ CANCELLED = [
 ]
 
 
-def small(columns, means, ar, var, y, passes, tol=0.0):
-    """A fit of order 1; what switches is seen from the counts."""
-    c = Case('fit', len(means), 1, len(ar) > 1, len(var) > 1, list(y), list(means), chains.flat(columns), list(ar), list(var))
+def small(columns, means, ar, var, y, passes, tol=0.0, p=1):
+    """A fit; what switches is seen from the counts."""
+    c = Case('fit', len(means), p, len(ar) > p, len(var) > 1, list(y), list(means), chains.flat(columns), list(ar), list(var))
     c.max_iter, c.tol = passes, tol
     return c
 
@@ -95,6 +105,11 @@ def known():
         yield small(*one)
     for columns, mean, ar, var, y in CANCELLED:
         yield small(columns, [0.0, mean], ar, var, y, 1)
+
+
+def later_columns():
+    for p, *one in LATER_COLUMNS:
+        yield small(*one, p=p)
 
 
 def cancelled(r, k, p):
@@ -332,7 +347,7 @@ def from_families(r, count):
 
 def cases(r, count):
     """The known ones and each fault; every pair and flag; a tenth are short; the rest by families."""
-    listed = gen.sampled(r, 'known', known(), count)
+    listed = gen.sampled(r, 'known', itertools.chain(known(), later_columns()), count)
     listed += gen.sampled(r, 'fault', every_fault(r), count - len(listed))
     listed += gen.sampled(r, 'pair', every_pair(r), count - len(listed))
     listed += gen.sampled(r, 'shortfit', short_fits(r), min(count // 10, count - len(listed)))

@@ -127,6 +127,10 @@ def fits_known(r):
     return fits.known()
 
 
+def fits_at_later_columns(r):
+    return fits.later_columns()
+
+
 def fits_nasty(r):
     """Each family twice; those that have faults of their own at few windows."""
     for family in dict.fromkeys(fits.FAMILIES):
@@ -156,7 +160,7 @@ def fits_short_of_memory(r):
 
 
 CALLS = (plain, nasty, faulty, refused_running, short_of_memory)
-FITS = (fits_plain, fits_known, fits_nasty, fits_faulty, fits_short_of_memory)
+FITS = (fits_plain, fits_known, fits_nasty, fits_faulty, fits_short_of_memory, fits_at_later_columns)
 
 
 def cases(makers):

@@ -39,7 +39,7 @@ fn of_not_finite(what: &str) -> Told {
     told(number, met.map(|m| m.0), met.map(|m| m.1))
 }
 
-/// Which of the three systems is singular.
+/// Which of the three systems is singular, and in the routed Rust at which column.
 fn of_singular(what: &str) -> Told {
     let place = match what {
         "stationary distribution" => 0,
@@ -47,7 +47,7 @@ fn of_singular(what: &str) -> Told {
         "M-step AR coefficients" => 2,
         other => panic!("no place for the Rust's system {other}"),
     };
-    told(21, Some(place), Some(0.0))
+    told(21, Some(place), met::take().map(|m| m.1))
 }
 
 pub fn of(e: RegimeError) -> Told {

@@ -7,7 +7,7 @@ use borrow.Author.Tests.{eq-eqb}
 use lib.Dec.{lit≤}
 use lib.Count.{trailingZeros}
 use lib.ListN.{replicate}
-use lib.Ieee.{Float, inf, lt, le, eq, ofBits, toBits, mul, div, add, sub, neg, sum, round, size, units, odd, span, climb, ofFields}
+use lib.Ieee.{Float, inf, lt, le, eq, ofBits, toBits, ofInt, mul, div, add, sub, neg, sum, round, size, units, odd, span, climb, ofFields}
 use Rattle.number.specs.Number.{_≤?_, _=?_, _⊘_, float, zero⁺, half, one, two, magnitudeOf, usable}
 use Rattle.number.specs.Sums.{sumUp}
 use Rattle.number.specs.Table.{_!_, tab, fillAt}
@@ -72,9 +72,13 @@ pub p5 : sharesOf (twoRegimes 1 quarter quarter most most) ≡ record { check = 
 unfolding sharesOf
 p5 = rw (passes .p5) (shares.values .p4)
 
-pub p6 : sharesOf (twoRegimes 0 one zero⁺ zero⁺ one) ≡ none (Singular 0)
+pub p6 : sharesOf (twoRegimes 0 one zero⁺ zero⁺ one) ≡ none (Singular 0 1)
 unfolding sharesOf
 p6 = rw (passes .p6) (shares.values .p6)
+
+pub p6-told : failsWith (Failed (Singular 0 1)) 21 0 one ≡ true
+unfolding same toBits ofBits ofInt
+p6-told = refl
 
 -- ---- the fit
 

@@ -213,7 +213,7 @@ fn p6() -> bool
 {
     let shares = stationary::stationary_shares(two(0, 1.0, 0.0, 0.0, 1.0));
     let check = shares.check;
-    failed(check, 21, 0)
+    failed_with(check, 21, 0, 1.0)
 }
 
 fn p7() -> bool

@@ -27,15 +27,15 @@ largestTo n a (suc i) = maxOf (largestTo n a i) (cell n a i i)
 unfoldable pub ridged : ℕ → List Float → Float → ℕ → Float
 ridged n a scale e = if e / n =? e % n then (a ! e ⊕ small ⊗ scale) else (a ! e)
 
--- 21 with its place, beside zeros
-abbrev pub refusedAt : ℕ → Update
-refusedAt which = record { check = Failed (Singular which); values = replicate 16 zero⁺ }
+-- 21 with its place and the solver's column, beside zeros
+abbrev pub refusedAt : ℕ → ℕ → Update
+refusedAt which c = record { check = Failed (Singular which c); values = replicate 16 zero⁺ }
 
--- the solution, in the first n of 16 places, or 21
+-- the solution, in the first n of 16 places, or 21; n is at most 16, so nothing is too large
 abbrev pub updatedBy : Outcome → List Float → ℕ → Update
 updatedBy Solved x which = record { check = Passed; values = x }
-updatedBy answers.Singular x which = refusedAt which
-updatedBy TooLarge x which = refusedAt which
+updatedBy (answers.Singular c) x which = refusedAt which c
+updatedBy TooLarge x which = refusedAt which 0
 
 -- n equations a x = b with the ridge; `incumbent` is what stays
 unfoldable pub solveOrKeep : ℕ → ℕ → List Float → List Float → List Float → Update

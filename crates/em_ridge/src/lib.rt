@@ -41,11 +41,11 @@ fn add_ridge(a: &mut [f64; 256], n: usize, scale: f64)
     }
 }
 
-fn refused(which: usize) -> Update
-    ensures { λ r. ⌜ r ≡ refusedAt which ⌝ }
+fn refused(which: usize, column: u8) -> Update
+    ensures { λ r. ⌜ r ≡ refusedAt which column ⌝ }
 {
     Update {
-        check: Check::Failed(Refusal::Singular(which)),
+        check: Check::Failed(Refusal::Singular(which, column)),
         values: [0.0; 16],
     }
 }
@@ -61,13 +61,13 @@ fn update_by(solution: Solution, which: usize) -> Update
             check: Check::Passed,
             values: x,
         },
-        Outcome::Singular => refused(which),
-        Outcome::TooLarge => refused(which),
+        Outcome::Singular(column) => refused(which, column),
+        Outcome::TooLarge => refused(which, 0),
     }
 }
 
 // The n equations a x = b with the ridge. Where there is no scale to measure it by, the incumbent stays. `which` is the
-// place that a refusal names.
+// place that a refusal names, beside the solver's column.
 pub fn solve_or_keep(
     mut a: [f64; 256],
     b: [f64; 16],

@@ -3,18 +3,17 @@ use Prim.Native.Nat.{ℕ, zero, suc, _+_, _-_, _*_, _<_, _≤_}
 use mathlib.Core.Path.{_≡_, refl, sym, ap, _∙_}
 use mathlib.Core.Bool.{Bool, true, false}
 use mathlib.Core.List.{List}
-use mathlib.Core.Option.{none, some, bind}
 use mathlib.Core.Logic.{⊎-elim}
 use native.Mathlib.Numerals.{add-one}
 use native.Mathlib.Nat.{add-assoc, eq-or-lt-of-le, le-of-suc-le-suc, not-suc-le-zero}
 use native.Mathlib.Omega.{arith}
-use borrow.Author.Tests.{lt-ltb, le-ltb, eq-eqb, ne-eqb}
+use borrow.Author.Tests.{lt-ltb, le-ltb, le-leb, lt-leb, eq-eqb, ne-eqb}
 use lib.ListN.{length, set, length-set}
 use lib.Ieee.{Float, lt, ne}
-use Rattle.number.specs.Number.{_⊖_, _⊗_, _⊘_, zero⁺, magnitudeOf}
+use Rattle.number.specs.Number.{_≤?_, _⊖_, _⊗_, _⊘_, zero⁺, magnitudeOf}
 use Rattle.number.specs.Table.{_!_, cell, fillAt}
 use Rattle.number.proofs.Table.{fillAt-ext, fillAt-long, row-within, row-before}
-use Rattle.linsolve.specs.Solver.{System, system, better, pivotTo, pivotOf, swapRows, placed, less, lessRow, clearRow, clearTo, tiny, column, eliminateTo, lessKnown, unknown, zeros, backTo, answer, solveOf}
+use Rattle.linsolve.specs.Solver.{System, system, better, pivotTo, pivotOf, swapRows, placed, less, lessRow, clearRow, clearTo, tiny, cleared, stoppedAt, isSmall, column, eliminateTo, lessKnown, unknown, zeros, backTo, answer, solveOf}
 use Rattle.linsolve.specs.Promises.{from, exchange, lessAt, Best, Holds, Remains}
 use Rattle.linsolve.specs.declared.Outcome.the-variants.{Solved, Singular, TooLarge}
 use Rattle.linsolve.proofs.Parts.{exchange-long}
@@ -104,14 +103,14 @@ module _ (n c : ℕ) (a b : List Float) (la : length a ≡ 256) (lb : length b �
   clear-first = rw none-done (holds la lb)
 
   module _ {i : ℕ} {m : Float} (p : Best n a c n i m) where
-    pub column-stops : lt m tiny ≡ true → Remains (column n c (system a b)) false a b
-    unfolding column
+    pub column-stops : lt m tiny ≡ true → Remains (column n c (system a b)) false c a b
+    unfolding column isSmall
     column-stops t = record { is = rw (← p .row, ← p .magnitude, t); wide = la; high = lb }
 
     pub column-goes : {a' b' a'' b'' : List Float} → lt m tiny ≡ false → Holds (placed n c (system a b)) a' b'
-        → Holds (clearTo n c (system a' b') (n - suc c)) a'' b'' → Remains (column n c (system a b)) true a'' b''
-    unfolding column
-    column-goes t o o' = record { is = rw (← p .row, ← p .magnitude, t, ← o .is) (ap some (o' .is)); wide = o' .wide; high = o' .high }
+        → Holds (clearTo n c (system a' b') (n - suc c)) a'' b'' → Remains (column n c (system a b)) true c a'' b''
+    unfolding column isSmall
+    column-goes t o o' = record { is = rw (← p .row, ← p .magnitude, t, ← o .is) (ap cleared (o' .is)); wide = o' .wide; high = o' .high }
 
 pub clear-more : (n c r : ℕ) (S : System) {a b a' b' : List Float} → c < r → Holds (clearTo n c S (r - suc c)) a b
     → Holds (clearRow n c r (system a b)) a' b' → Holds (clearTo n c S (r + 1 - suc c)) a' b'
@@ -120,27 +119,34 @@ clear-more n c r S h o o' = rw (one-more, which-next, ← o .is) o'
 
 -- ---- all columns
 
-stays-none : (n : ℕ) (S : System) (c d : ℕ) → c < d → eliminateTo n S (suc c) ≡ none → eliminateTo n S d ≡ none
-unfolding eliminateTo bind
-stays-none n S c zero h e = absurd (not-suc-le-zero h)
-stays-none n S c (suc d) h e = ⊎-elim (λ q. rw (← q) e) (λ l. rw (stays-none n S c d l e)) (eq-or-lt-of-le (le-of-suc-le-suc h))
+-- stopped at a column, whatever comes after it
+pub stays-stopped : (n : ℕ) (S : System) (c d : ℕ) → c < d → eliminateTo n S (suc c) ≡ stoppedAt c → eliminateTo n S d ≡ stoppedAt c
+unfolding eliminateTo
+stays-stopped n S c zero h e = absurd (not-suc-le-zero h)
+stays-stopped n S c (suc d) h e = ⊎-elim (λ q. rw (← q) e) (λ l. rw (stays-stopped n S c d l e)) (eq-or-lt-of-le (le-of-suc-le-suc h))
 
-pub columns-first : (n : ℕ) (a b : List Float) → length a ≡ 256 → length b ≡ 16 → Remains (eliminateTo n (system a b) 0) true a b
+pub columns-first : (n : ℕ) (a b : List Float) → length a ≡ 256 → length b ≡ 16 → Remains (eliminateTo n (system a b) 0) true 0 a b
 unfolding eliminateTo
 columns-first n a b la lb = record { is = refl; wide = la; high = lb }
 
 -- after c columns the next is done, and t says whether its pivot passed
-module _ (n : ℕ) (S : System) (c : ℕ) {a b a' b' : List Float} {t : Bool} (o : Remains (eliminateTo n S c) true a b)
-    (o' : Remains (column n c (system a b)) t a' b') where
-  pub columns-more : t ≡ true → Remains (eliminateTo n S (c + 1)) true a' b'
-  unfolding eliminateTo bind
+module _ (n : ℕ) (S : System) (c : ℕ) {a b a' b' : List Float} {t : Bool} (o : Remains (eliminateTo n S c) true c a b)
+    (o' : Remains (column n c (system a b)) t c a' b') where
+  pub columns-more : t ≡ true → Remains (eliminateTo n S (c + 1)) true (c + 1) a' b'
+  unfolding eliminateTo
   columns-more q = record { is = rw (add-one, ← o .is) (rw q at (o' .is)); wide = o' .wide; high = o' .high }
 
-  pub columns-stop : t ≡ false → c < n → Remains (eliminateTo n S n) false a' b'
-  unfolding eliminateTo bind
+  pub columns-stop : t ≡ false → c < n → Remains (eliminateTo n S n) (n ≤? c) c a' b'
+  unfolding eliminateTo
   columns-stop q h =
-      let e : eliminateTo n S (suc c) ≡ none = rw (← o .is) (sym (rw q at (o' .is))) in
-      record { is = sym (stays-none n S c n h e); wide = o' .wide; high = o' .high }
+      let e : eliminateTo n S (suc c) ≡ stoppedAt c = rw (← o .is) (sym (rw q at (o' .is))) in
+      record { is = rw (lt-leb n c h) (sym (stays-stopped n S c n h e)); wide = o' .wide; high = o' .high }
+
+pub columns-all : (n : ℕ) (S : System) (c : ℕ) {a b : List Float} → c ≤ n → n ≤ c → Remains (eliminateTo n S c) true c a b
+    → Remains (eliminateTo n S n) (n ≤? c) c a b
+columns-all n S c h h' o =
+    let e : c ≡ n = omega arith in
+    record { is = rw (le-leb n c h') (o .is ∙ ap (eliminateTo n S) e); wide = o .wide; high = o .high }
 
 -- ---- back-substitution
 
@@ -173,11 +179,11 @@ pub large-is : (n : ℕ) (a b : List Float) → 16 < n → record { outcome = To
 unfolding solveOf
 large-is n a b h = rw (lt-ltb 16 n h)
 
-module _ (n : ℕ) (a b : List Float) {a' b' : List Float} {t : Bool} (h : n ≤ 16) (o : Remains (eliminateTo n (system a b) n) t a' b') where
-  pub solved-is : {x : List Float} → t ≡ true → x ≡ backTo n (system a' b') n → record { outcome = Solved; x = x } ≡ solveOf n a b
+module _ (n : ℕ) (a b : List Float) {a' b' : List Float} {c : ℕ} (h : n ≤ 16) (o : Remains (eliminateTo n (system a b) n) (n ≤? c) c a' b') where
+  pub solved-is : {x : List Float} → n ≤ c → x ≡ backTo n (system a' b') n → record { outcome = Solved; x = x } ≡ solveOf n a b
   unfolding solveOf answer
-  solved-is q e = rw (le-ltb 16 n h, ← o .is, q, e)
+  solved-is q e = rw (le-ltb 16 n h, ← o .is, le-leb n c q, e)
 
-  pub singular-is : t ≡ false → record { outcome = Singular; x = zeros } ≡ solveOf n a b
+  pub singular-is : c < n → record { outcome = Singular c; x = zeros } ≡ solveOf n a b
   unfolding solveOf answer
-  singular-is q = rw (le-ltb 16 n h, ← o .is, q)
+  singular-is q = rw (le-ltb 16 n h, ← o .is, lt-leb n c q)

@@ -3,12 +3,11 @@ use Prim.Native.Nat.{ℕ, suc, _+_, _-_, _<_, _≤_}
 use mathlib.Core.Path.{_≡_}
 use mathlib.Core.Bool.{Bool}
 use mathlib.Core.List.{List}
-use mathlib.Core.Option.{Option, none, some}
 use lib.ListN.{length}
 use lib.Ieee.{Float}
 use Rattle.number.specs.Number.{if_then_else_, _⊖_, _⊗_, magnitudeOf}
 use Rattle.number.specs.Table.{_!_, cell, fillAt}
-use Rattle.linsolve.specs.Solver.{System, system, pivotTo}
+use Rattle.linsolve.specs.Solver.{System, system, pivotTo, Elimination, cleared, stoppedAt}
 
 -- the place j places after s
 unfoldable pub from : List Float → ℕ → ℕ → Float
@@ -35,8 +34,8 @@ pub record Holds (S : System) (a b : List Float) : Type 0 where
   pub wide : length a ≡ 256
   pub high : length b ≡ 16
 
--- the arrays hold what remains of a system, where `goes` says that something does
-pub record Remains (rest : Option System) (goes : Bool) (a b : List Float) : Type 0 where
-  pub is : (if goes then some (system a b) else none) ≡ rest
+-- elimination came to e: the arrays hold the system where `goes` says that its columns are cleared, else it stopped at column c
+pub record Remains (e : Elimination) (goes : Bool) (c : ℕ) (a b : List Float) : Type 0 where
+  pub is : (if goes then cleared (system a b) else stoppedAt c) ≡ e
   pub wide : length a ≡ 256
   pub high : length b ≡ 16

@@ -1,10 +1,11 @@
 -- The solver: Gaussian elimination of n equations with partial pivoting, then back-substitution. The table stands row by row in a list.
 -- After Golub and Van Loan, Matrix Computations, 4th edition: algorithm 3.4.1 (elimination with partial pivoting) and 3.1.2 (back-substitution by
--- rows); the order of operations is that of `solve` in linsolve.rs, and document 01, "Solver" and refusal 21.
+-- rows); the order of operations is that of `solve` in linsolve.rs, and document 01, "Solver" and refusal 21, and document 02, Q-4.
 -- c is the column that is cleared and the row its pivot goes to, i the row where the pivot is found, r any other row; d counts those done.
-use Prim.Native.Nat.{ℕ, zero, suc, _+_, _-_, _*_}
+use Prim.Native.Nat.{ℕ, zero, suc, _+_, _-_, _*_, _<_}
+use mathlib.Core.Path.{_≡_}
+use mathlib.Core.Bool.{Bool, true}
 use mathlib.Core.List.{List}
-use mathlib.Core.Option.{Option, none, some, bind}
 use lib.ListN.{set, replicate}
 use lib.Ieee.{Float, lt, ne}
 use Rattle.number.specs.Number.{if_then_else_, _<?_, _=?_, _⊖_, _⊗_, _⊘_, float, zero⁺, magnitudeOf}
@@ -74,16 +75,28 @@ clearTo n c S (suc d) = clearRow n c (c + suc d) (clearTo n c S d)
 abbrev pub tiny : Float
 tiny = float 0x01A5_6E1F_C2F8_F359
 
--- column c, none where its pivot's magnitude is below tiny: a NaN's is not, and passes
-unfoldable pub column : ℕ → ℕ → System → Option System
-column n c S =
-    if lt (magnitudeOf (cell n (S .a) (pivotOf n (S .a) c) c)) tiny then none
-    else some (clearTo n c (placed n c S) (n - suc c))
+-- what elimination comes to: the system with its columns cleared, or the column at which it stopped
+pub data Elimination : Type 0 where
+  cleared : System → Elimination
+  stoppedAt : ℕ → Elimination
 
--- the first c columns
-unfoldable pub eliminateTo : ℕ → System → ℕ → Option System
-eliminateTo n S zero = some S
-eliminateTo n S (suc c) = bind (eliminateTo n S c) (column n c)
+-- whether the pivot of column c has a magnitude below tiny: a NaN's is not, and passes
+unfoldable pub isSmall : ℕ → ℕ → System → Bool
+isSmall n c S = lt (magnitudeOf (cell n (S .a) (pivotOf n (S .a) c) c)) tiny
+
+-- column c cleared, or the stop where its pivot is too small
+unfoldable pub column : ℕ → ℕ → System → Elimination
+column n c S = if isSmall n c S then stoppedAt c else cleared (clearTo n c (placed n c S) (n - suc c))
+
+-- once stopped, no other column is looked at
+abbrev pub andThen : Elimination → (System → Elimination) → Elimination
+andThen (cleared S) next = next S
+andThen (stoppedAt c) next = stoppedAt c
+
+-- the first c columns, one after the other: so the first whose pivot is too small is the one that is named
+unfoldable pub eliminateTo : ℕ → System → ℕ → Elimination
+eliminateTo n S zero = cleared S
+eliminateTo n S (suc c) = andThen (eliminateTo n S c) (column n c)
 
 -- ---- back-substitution, the last unknown first
 
@@ -106,12 +119,21 @@ backTo n S (suc d) = set (backTo n S d) (n - suc d) (unknown n S (backTo n S d) 
 
 -- ---- the whole
 
--- none: a pivot was too small
-unfoldable pub answer : ℕ → Option System → Solution
-answer n none = record { outcome = Singular; x = zeros }
-answer n (some S) = record { outcome = Solved; x = backTo n S n }
+unfoldable pub answer : ℕ → Elimination → Solution
+answer n (cleared S) = record { outcome = Solved; x = backTo n S n }
+answer n (stoppedAt c) = record { outcome = Singular c; x = zeros }
 
 -- a x = b, for n equations. A table of 256 places holds no more than 16 rows and columns
 unfoldable pub solveOf : ℕ → List Float → List Float → Solution
 solveOf n a b =
     if 16 <? n then record { outcome = TooLarge; x = zeros } else answer n (eliminateTo n (system a b) n)
+
+-- ---- what the column of a `Singular` says
+
+-- of the first d columns, c is the first whose pivot has a magnitude below 1e-300: each before it passed and was cleared, and in the system that was
+-- left the pivot of column c is too small
+pub record FirstSmall (n : ℕ) (S : System) (d c : ℕ) : Type 0 where
+  pub within : c < d
+  pub left : System
+  pub before : eliminateTo n S c ≡ cleared left
+  pub small : isSmall n c left ≡ true

@@ -2,14 +2,15 @@
 ghost use mathlib.Core.Path.{_≡_};
 ghost use Prim.Native.Nat.{suc, _+_, _-_, _<_, _≤_};
 ghost use lib.ListN.{length};
-ghost use Rattle.number.specs.Number.{magnitudeOf};
+ghost use Rattle.number.specs.Number.{_≤?_, magnitudeOf};
 ghost use Rattle.number.specs.Table.{cell, fillAt};
 ghost use Rattle.linsolve.specs.Solver.{system, pivotOf, swapRows, placed, lessRow, clearRow, clearTo, column, eliminateTo, lessKnown, backTo, solveOf};
 ghost use Rattle.linsolve.specs.Promises.{exchange, lessAt, Best, Holds, Remains};
 
 pub enum Outcome {
     Solved,
-    Singular,
+    // the column at which elimination stopped, counted from 0, so below 16
+    Singular(u8),
     TooLarge,
 }
 
@@ -151,7 +152,7 @@ fn clear_below(a: &mut [f64; 256], b: &mut [f64; 16], n: usize, c: usize)
 // Column c done; false where its pivot is too small.
 fn eliminate_column(a: &mut [f64; 256], b: &mut [f64; 16], n: usize, c: usize) -> bool
     requires { ⌜ (n ≤ 16) × (c < n) × (length (now a) ≡ 256) × (length (now b) ≡ 16) ⌝ }
-    ensures { λ goes. ⌜ Remains (column n c (system (now (a .entry)) (now (b .entry)))) goes (now (a .exit)) (now (b .exit)) ⌝ }
+    ensures { λ goes. ⌜ Remains (column n c (system (now (a .entry)) (now (b .entry)))) goes c (now (a .exit)) (now (b .exit)) ⌝ }
 {
     let p = pivot_of(a, n, c);
     // a NaN is not below, and passes
@@ -163,20 +164,20 @@ fn eliminate_column(a: &mut [f64; 256], b: &mut [f64; 16], n: usize, c: usize) -
     true
 }
 
-// All columns; false where a pivot is too small.
-fn eliminate(a: &mut [f64; 256], b: &mut [f64; 16], n: usize) -> bool
+// The number of columns done: all n, or those before the first whose pivot is too small, which has this number.
+fn eliminate(a: &mut [f64; 256], b: &mut [f64; 16], n: usize) -> usize
     requires { ⌜ (n ≤ 16) × (length (now a) ≡ 256) × (length (now b) ≡ 16) ⌝ }
-    ensures { λ goes. ⌜ Remains (eliminateTo n (system (now (a .entry)) (now (b .entry))) n) goes (now (a .exit)) (now (b .exit)) ⌝ }
+    ensures { λ done. ⌜ Remains (eliminateTo n (system (now (a .entry)) (now (b .entry))) n) (n ≤? done) done (now (a .exit)) (now (b .exit)) ⌝ }
 {
     let mut c = 0;
     while c < n {
         if eliminate_column(a, b, n, c) {
             c += 1;
         } else {
-            return false;
+            return c;
         }
     }
-    true
+    c
 }
 
 // The right-hand side of row r less what the unknowns after r take.
@@ -219,16 +220,16 @@ pub fn solve(mut a: [f64; 256], mut b: [f64; 16], n: usize) -> Solution
             x: [0.0; 16],
         };
     }
-    if eliminate(&mut a, &mut b, n) {
-        let x = back_substitute(&a, &b, n);
-        Solution {
-            outcome: Outcome::Solved,
-            x,
-        }
-    } else {
-        Solution {
-            outcome: Outcome::Singular,
+    let done = eliminate(&mut a, &mut b, n);
+    if done < n {
+        return Solution {
+            outcome: Outcome::Singular(done as u8),
             x: [0.0; 16],
-        }
+        };
+    }
+    let x = back_substitute(&a, &b, n);
+    Solution {
+        outcome: Outcome::Solved,
+        x,
     }
 }

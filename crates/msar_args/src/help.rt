@@ -45,5 +45,5 @@ then ends with status 2 or 1. This program without it gives no status: it always
 }
 
 pub fn version() {
-    io::write_all(libc::STDOUT_FILENO, b"msar 0.1.0\n");
+    io::write_all(libc::STDOUT_FILENO, b"msar 0.2.0\n");
 }

@@ -49,6 +49,35 @@ fn columns(r: Refusal, k: usize, order: usize, q: MsarParams) {
     msar_say::refusals::refused(r, k, order, b"");
 }
 
+// ---- a singular system
+
+// 21 of the AR coefficients names the lag. Of which regime they are it does not say, where each has its own.
+fn coefficients(r: Refusal, s: MsarSpec) {
+    if s.switching_ar {
+        msar_say::refusals::refused(
+            r,
+            s.k_regimes,
+            s.order,
+            b", which each regime has for itself: one regime, not known which, has all but lost its readings, or over the variances they all but stand on their means; try fewer regimes, a lower order or another start, or give the readings in a smaller unit",
+        );
+        return;
+    }
+    msar_say::refusals::refused(
+        r,
+        s.k_regimes,
+        s.order,
+        b", which the regimes share: over the variances the readings all but stand on their means; give the readings in a smaller unit, or try smaller variances, a lower order or another start",
+    );
+}
+
+fn singular(r: Refusal, which: usize, s: MsarSpec) {
+    if which == 2 {
+        coefficients(r, s);
+        return;
+    }
+    msar_say::refusals::refused(r, s.k_regimes, s.order, b"");
+}
+
 // ---- a reading
 
 fn line_of(numbers: &[u64], t: usize) -> u64 {
@@ -85,6 +114,7 @@ fn refused(r: Refusal, s: MsarSpec, q: MsarParams, y: &[f64], numbers: &[u64], r
         Refusal::Reading(t) => reading(6, t, y, numbers),
         Refusal::Likelihood(row) => reading(23, time_of(row, order), y, numbers),
         Refusal::Column(_, _) => columns(r, k, order, q),
+        Refusal::Singular(which, _) => singular(r, which, s),
         _ => msar_say::refusals::refused(r, k, order, b""),
     }
 }

@@ -200,24 +200,32 @@ fn of_shape(out: &mut Text, n: usize, number: usize, i: usize) -> usize
 
 // ---- the run
 
-fn of_system(out: &mut Text, n: usize, which: usize) -> usize
+// The column is the regime, or for the AR coefficients the lag less one. Whose coefficients they are stands in the hint.
+fn of_system(out: &mut Text, n: usize, which: usize, column: u8) -> usize
     ensures { λ r. ⌜ Leads r (now (out .exit)) ⌝ }
 {
+    let regime = column as usize;
     match which {
-        0 => put::bytes(
+        0 => count(
             out,
             n,
-            b"the stationary shares are not determined: the transition table has regimes, or groups of them, that are never left for each other",
+            b"the stationary shares are not determined: among regimes 0 to ",
+            regime,
+            b" (counted from 0) the transition table has regimes, or groups of them, that are never left for each other; let each be left with a small probability, as 0.001; if a fit came to such a table, try another start or fewer regimes",
         ),
-        1 => put::bytes(
+        1 => count(
             out,
             n,
-            b"the equations of the means are singular: a regime has lost all readings; try fewer regimes or another start",
+            b"no data tell the mean of regime ",
+            regime,
+            b" (counted from 0) from the others: over the variances the readings say next to nothing of it; try smaller variances, fewer regimes or another start",
         ),
-        _ => put::bytes(
+        _ => count(
             out,
             n,
-            b"the equations of the AR coefficients are singular: try a lower order or another start",
+            b"no data determine the AR coefficient of lag ",
+            regime + 1,
+            b"",
         ),
     }
 }
@@ -225,14 +233,14 @@ fn of_system(out: &mut Text, n: usize, which: usize) -> usize
 fn of_run(out: &mut Text, n: usize, r: Refusal) -> usize
     ensures { λ r. ⌜ Leads r (now (out .exit)) ⌝ }
 {
-    match r.number() {
-        21 => of_system(out, n, r.place()),
-        24 => put::bytes(
+    match r {
+        Refusal::Singular(which, column) => of_system(out, n, which, column),
+        Refusal::OrderZero => put::bytes(
             out,
             n,
             b"a fit needs an order of at least 1: write `order 1` and `ar 0`, and EM finds the coefficient",
         ),
-        25 => of_variance(out, n, r.value()),
+        Refusal::SampleVariance(x) => of_variance(out, n, x),
         _ => put::bytes(out, n, b"the log-likelihood is not finite"),
     }
 }

@@ -1,11 +1,12 @@
 -- The theorems about the definitions, each from the crate that it is about; the bound on a fit's passes from what its passes keep. Assumes nothing.
 use mathlib.Core.Path.{_≡_, refl}
-use mathlib.Core.Bool.{Bool}
+use mathlib.Core.Bool.{Bool, false}
 use mathlib.Core.List.{List}
 use Prim.Native.Nat.{ℕ, _≤_}
 use native.Mathlib.Omega.{arith}
 use lib.ListN.{length}
-use lib.Ieee.{Float}
+use lib.Ieee.{Float, binary64, ofInt}
+use lib.Ieee.Back.{round-whole}
 use Rattle.root.proofs.Theorem.{root-is, root-unique}
 use Rattle.refusal.specs.Checks.{_before_}
 use Rattle.refusal.specs.declared.Check.{Check}
@@ -16,6 +17,7 @@ use Rattle.params.specs.declared.MsarParams.{MsarParams}
 use Rattle.params.specs.Checks.{parameterCheck}
 use Rattle.params.specs.Built.{builtAfter, builtOf}
 use Rattle.params.proofs.Again.{again}
+use Rattle.linsolve.proofs.Stopped.{solve-named, solve-names}
 use Rattle.binding.specs.Binding.{admittedCheck, memoryCheck, workNeed, tableNeed}
 use Rattle.calls.specs.Calls.{runCheck}
 use Rattle.fit.specs.declared.Course.{Course}
@@ -68,5 +70,8 @@ meanings =
       root-alone = root-unique;
       round-trip = written-back;
       built-again = λ q h. built-so q (parameterCheck q) refl h;
+      first-column = λ n a b c. solve-named n c a b;
+      names-column = λ n a b c. solve-names n c a b;
+      exact-column = λ which c h. unfold ofInt in round-whole binary64 false c h;
       passes = passes;
     }

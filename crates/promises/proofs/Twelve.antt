@@ -7,7 +7,7 @@ use native.Mathlib.Nat.{le-of-suc-le-suc, not-suc-le-zero}
 use lib.Count.{trailingZeros}
 use lib.Dec.{T, lit≤}
 use lib.ListN.{replicate}
-use lib.Ieee.{Float, inf, binary64, fits, add, sub, mul, div, neg, lt, le, eq, sum, round, size, units, odd, span, climb, ofBits, toBits, ofFields}
+use lib.Ieee.{Float, inf, binary64, fits, add, sub, mul, div, neg, lt, le, eq, sum, round, size, units, odd, span, climb, ofBits, toBits, ofInt, ofFields}
 use Rattle.number.specs.Number.{float, zero⁺, half, one, magnitudeOf, usable}
 use Rattle.number.specs.Sums.{sumUp}
 use Rattle.number.specs.Table.{tab, fillAt}
@@ -98,7 +98,7 @@ twelve =
       p3 = p3;
       p4 = rw (checked .p4) (shares.values .p4);
       p5 = λ y. ap (λ (s : Shares). rowOf 2 1 (firstPrediction (alike 1) (s .values))) (shares.values .p4) ∙ first;
-      p6 = rw (checked .p6) (ap (λ (s : Shares). told (s .check)) (shares.values .p6));
+      p6 = rw (checked .p6) (ap (λ (s : Shares). told (s .check)) (shares.values .p6) ∙ (unfold ofInt ofBits in refl));
       p7 = unfold rowOf tab labels number laterPrediction sumUp add mul ofBits in refl;
       p8 = p8;
       p9 = record { spread = variances.values .p9-spread; constant = variances.values .p9-constant; fit = constant.p9-fit; gives = λ maxIter tol. ap (λ (x : FitOutcome). told (x .answer .check)) (constant.p9-fit maxIter tol) };

@@ -1,8 +1,8 @@
 -- What each refusal says: its number in document 01's table, the place and the value that it carries, zero where it names none.
--- After document 01, "Refusals by number".
+-- After document 01, "Refusals by number", and document 02.
 use Prim.Native.Nat.{ℕ}
 use lib.Ieee.{Float}
-use Rattle.number.specs.Number.{zero⁺}
+use Rattle.number.specs.Number.{ofWhole, zero⁺}
 use Rattle.refusal.specs.declared.Refusal.{Refusal}
 use Rattle.refusal.specs.declared.Said.{Said}
 use Rattle.refusal.specs.declared.Refusal.the-variants.{FewRegimes, ManyWindows, ManyRegimes, ShortSeries, LongSeries, Reading, Memory, FewMeans, Beyond, Mean, Length, Transition, Column, NoAr, Ar, Variance, Shape, Singular, Share, Likelihood, OrderZero, SampleVariance, Loglike}
@@ -31,8 +31,8 @@ said NoAr = saying 17 0 zero⁺
 said (Ar i v) = saying 15 i v
 said (Variance i v) = saying 16 i v
 said Shape = saying 20 0 zero⁺
--- 0 stationary, 1 means, 2 AR
-said (Singular which) = saying 21 which zero⁺
+-- the place is 0 stationary, 1 means, 2 AR; the value is the column at which the solver stopped (document 02, Q-4)
+said (Singular which column) = saying 21 which (ofWhole column)
 said (Share i v) = saying 22 i v
 said (Likelihood row) = saying 23 row zero⁺
 said OrderZero = saying 24 0 zero⁺

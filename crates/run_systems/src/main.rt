@@ -1,8 +1,8 @@
 // Answers linear systems, so that the gate compares `linsolve::solve` with the answers of the Rust that it was ported from.
 // Standard input: for each system a line with n, n * n lines with the table, row by row, and n lines with the right-hand side;
 // after an n above 16 no numbers come. Each line is 16 hexadecimal digits, n's too.
-// Standard output: for each system a line `solved` and n lines with the unknowns, or `singular`, or `too large`, every NaN as
-// 7ff8000000000000; or `bad line N`, which ends the run.
+// Standard output: for each system a line `solved` and n lines with the unknowns, or `singular C` with the column, or
+// `too large`, every NaN as 7ff8000000000000; or `bad line N`, which ends the run.
 ghost use Prim.Native.Nat.{_≤_, _<_, _^_};
 use linsolve::Outcome;
 use linsolve::Solution;
@@ -44,6 +44,11 @@ fn places(x: &[f64; 16], n: usize) -> bool
     zero_from(x, n) || io::write_all(1, b"not zero past n\n")
 }
 
+// Writes the column at which elimination stopped, and says whether that went through.
+fn singular(column: u8) -> bool {
+    io::write_all(1, b"singular ") && io::print_decimal(1, column as u64) && io::write_all(1, b"\n")
+}
+
 // Writes the answer to a system of n equations, and says whether that went through.
 fn write(s: Solution, n: usize) -> bool
     requires { ⌜ n ≤ 16 ⌝ }
@@ -52,7 +57,7 @@ fn write(s: Solution, n: usize) -> bool
     let x = s.x;
     match outcome {
         Outcome::Solved => io::write_all(1, b"solved\n") && places(&x, n),
-        Outcome::Singular => io::write_all(1, b"singular\n") && places(&x, 0),
+        Outcome::Singular(column) => singular(column) && places(&x, 0),
         Outcome::TooLarge => io::write_all(1, b"too large\n") && places(&x, 0),
     }
 }

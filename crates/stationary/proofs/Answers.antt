@@ -21,10 +21,10 @@ module _ (n : ℕ) (T a b : List Float) (ea : a ≡ shareTable n T) (eb : b ≡ 
   unfolding solvedShares
   by e = sym (ap (λ (s : Solution). after (s .outcome) (s .x) n) is ∙ ap (λ (o : Outcome). after o (S .x) n) e)
 
-  pub was-singular : S .outcome ≡ answers.Singular → none (Singular 0) ≡ solvedShares n T
+  pub was-singular : {c : ℕ} → S .outcome ≡ answers.Singular c → none (Singular 0 c) ≡ solvedShares n T
   was-singular e = by e
 
-  pub was-too-large : S .outcome ≡ TooLarge → none (Singular 0) ≡ solvedShares n T
+  pub was-too-large : S .outcome ≡ TooLarge → none (Singular 0 0) ≡ solvedShares n T
   was-too-large e = by e
 
   pub was-solved : S .outcome ≡ Solved → {c : Check} → c ≡ each n (shareCheck (S .x)) → kept c (S .x) ≡ solvedShares n T

@@ -63,11 +63,11 @@ abbrev pub kept : Check → List Float → Shares
 kept Passed x = record { check = Passed; values = x }
 kept (Failed r) x = none r
 
--- 21 where the system is singular, its place 0; then 22
+-- 21 where the system is singular, its place 0, with the solver's column; then 22. n is at most 16, so nothing is too large
 abbrev pub after : Outcome → List Float → ℕ → Shares
 after Solved x n = kept (each n (shareCheck x)) x
-after answers.Singular x n = none (Singular 0)
-after TooLarge x n = none (Singular 0)
+after (answers.Singular c) x n = none (Singular 0 c)
+after TooLarge x n = none (Singular 0 0)
 
 abbrev pub answered : Solution → ℕ → Shares
 answered S n = after (S .outcome) (S .x) n

@@ -97,8 +97,8 @@ pub fn solved_shares(transition: &[f64; 256], n: usize) -> Shares
     let x = s.x;
     match outcome {
         Outcome::Solved => {}
-        Outcome::Singular => return none(Refusal::Singular(0)),
-        Outcome::TooLarge => return none(Refusal::Singular(0)),
+        Outcome::Singular(column) => return none(Refusal::Singular(0, column)),
+        Outcome::TooLarge => return none(Refusal::Singular(0, 0)),
     }
     match check_shares(&x, n) {
         Check::Passed => Shares {
@@ -119,7 +119,7 @@ fn none(r: Refusal) -> Shares
     }
 }
 
-// The stationary shares: the parameter checks first, then 21 with place 0, then 22.
+// The stationary shares: the parameter checks first, then 21 with place 0 and the solver's column, then 22.
 pub fn stationary_shares(q: MsarParams) -> Shares
     ensures { λ r. ⌜ r ≡ sharesOf q ⌝ }
 {

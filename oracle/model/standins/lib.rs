@@ -1,4 +1,6 @@
-//! Root of the crate that build.sh makes of the Rust's four sources, of the stand-ins beside this file and of ../shim/fm.rs.
+//! Root of the crate that build.sh makes of the Rust's four sources, of the stand-ins beside this file, of oracle/shim/fm.rs and of
+//! oracle/linsolve/column.rs.
+mod column;
 pub mod error;
 pub mod fm;
 pub mod met;
@@ -6,6 +8,7 @@ mod linsolve;
 mod model;
 mod params;
 mod results;
+mod solver;
 mod spec;
 
 pub use error::RegimeError;

@@ -1,5 +1,5 @@
 //! Where the Rust met a refusal, which most of its errors do not say, and how often its filter began. The lines that build.sh
-//! adds to the routed copies of model.rs and params.rs write it here; they do no arithmetic.
+//! adds to the routed copies of model.rs and params.rs write it here, and do no arithmetic; the column of a 21 comes from solver.rs.
 use std::cell::Cell;
 
 thread_local! {

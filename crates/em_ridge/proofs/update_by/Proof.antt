@@ -7,10 +7,10 @@ returns : tie.Need-returns
 returns c = rw (c .enum-told .given .1)
 
 returns-2 : tie.Need-returns-2
-returns-2 c = rw (c .before .enum-told2 .given .1) (c .refused .ensures)
+returns-2 c = rw (c .before .before .outcome .given .1) (c .refused .ensures)
 
 returns-3 : tie.Need-returns-3
-returns-3 c = rw (c .before .enum-told3 .given .1) (c .refused2 .ensures)
+returns-3 c = rw (c .before .enum-told2 .given .1) (c .refused2 .ensures)
 
 pub update-by-spec : {M : Type 1} → statement M
 update-by-spec =

@@ -27,18 +27,18 @@ module _ (c : tie.After-solve) where
 
 returns : tie.Need-returns
 returns c =
-    let s = c .before .before .before .before in
-    c .none .ensures ∙ was-singular (n s) (transition s) (table s .table-of .result) (sides s .sides-of .result) (table s .table-of .ensures) (sides s .sides-of .ensures) (s .solve .result) (s .solve .ensures) (c .before .enum-told2 .given .1)
+    let s = c .before .before .before .before .before in
+    c .none .ensures ∙ was-singular (n s) (transition s) (table s .table-of .result) (sides s .sides-of .result) (table s .table-of .ensures) (sides s .sides-of .ensures) (s .solve .result) (s .solve .ensures) (c .before .before .outcome .given .1)
 
 returns-2 : tie.Need-returns-2
 returns-2 c =
     let s = c .before .before .before .before in
-    c .none2 .ensures ∙ was-too-large (n s) (transition s) (table s .table-of .result) (sides s .sides-of .result) (table s .table-of .ensures) (sides s .sides-of .ensures) (s .solve .result) (s .solve .ensures) (c .before .enum-told3 .given .1)
+    c .none2 .ensures ∙ was-too-large (n s) (transition s) (table s .table-of .result) (sides s .sides-of .result) (table s .table-of .ensures) (sides s .sides-of .ensures) (s .solve .result) (s .solve .ensures) (c .before .enum-told2 .given .1)
 
 returns-3 : tie.Need-returns-3
 returns-3 c =
     let s = c .before .before .before .before .before .before .before in
-    was-solved (n s) (transition s) (table s .table-of .result) (sides s .sides-of .result) (table s .table-of .ensures) (sides s .sides-of .ensures) (s .solve .result) (s .solve .ensures) (c .before .before .before .before .enum-told .given .1) (sym (c .enum-told4 .given .1) ∙ c .before .before .check-shares .ensures)
+    was-solved (n s) (transition s) (table s .table-of .result) (sides s .sides-of .result) (table s .table-of .ensures) (sides s .sides-of .ensures) (s .solve .result) (s .solve .ensures) (c .before .before .before .before .enum-told .given .1) (sym (c .enum-told3 .given .1) ∙ c .before .before .check-shares .ensures)
 
 returns-4 : tie.Need-returns-4
 returns-4 c =
