@@ -37,10 +37,15 @@ lagsTo f k phis means y t w zero = f (label w 0)
 lagsTo f k phis means y t w (suc l) =
     lagsTo f k phis means y t w l ⊕ phis ! (l * k + label w 0) ⊗ (y ! (t - suc l) ⊖ means ! label w (suc l))
 
--- prediction × density, by the tables
+-- the exponent of a density, by the tables; prediction × density by a row of exponents, and by the tables
+unfoldable pub exponentAt : Float → List Float → List Float → List Float → ℕ → Float
+exponentAt reading means deviations logarithms a = lnpdfOf ((reading ⊖ means ! a) ⊘ deviations ! a) ⊖ logarithms ! a
+
+unfoldable pub weightOf : List Float → List Float → ℕ → Float
+weightOf predicted exponents a = predicted ! a ⊗ expOf (exponents ! a)
+
 unfoldable pub weightAt : Float → List Float → List Float → List Float → List Float → ℕ → Float
-weightAt reading means deviations logarithms predicted a =
-    predicted ! a ⊗ expOf (lnpdfOf ((reading ⊖ means ! a) ⊘ deviations ! a) ⊖ logarithms ! a)
+weightAt reading means deviations logarithms predicted a = predicted ! a ⊗ expOf (exponentAt reading means deviations logarithms a)
 
 -- φ by lag and label: place l · k + s is φ_(l+1) of label s
 unfoldable pub phisFrom : List Float → ℕ → ℕ → ℕ → List Float

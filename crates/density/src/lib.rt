@@ -12,7 +12,7 @@ ghost use Rattle.window.specs.Shape.{Shape};
 ghost use Rattle.params.specs.declared.MsarParams.{MsarParams};
 ghost use Rattle.window.specs.Windows.{labels};
 ghost use Rattle.params.specs.Parameters.{k, p, blockOf};
-ghost use Rattle.density.specs.Steps.{variancesFrom, deviationAt, logAt, meanAt, lagsTo, weightAt, phisFrom, phisOf, laggedAt, Parts};
+ghost use Rattle.density.specs.Steps.{variancesFrom, deviationAt, logAt, meanAt, lagsTo, exponentAt, weightOf, weightAt, phisFrom, phisOf, laggedAt, Parts};
 use params::MsarParams;
 use window::Time;
 
@@ -194,6 +194,39 @@ pub fn means_row(
     add_lags(means, phis, k, order, y, t, row);
 }
 
+// The exponents of the densities. They have a loop of their own, so that no division waits for an exponential.
+fn exponents(
+    reading: f64,
+    means: &[f64; 256],
+    deviations: &[f64; 256],
+    logarithms: &[f64; 256],
+    m: usize,
+    row: &mut [f64; 256],
+)
+    requires { ⌜ (m ≤ 256) × (length (now row) ≡ 256) ⌝ }
+    ensures { λ _. ⌜ now (row .exit) ≡ fillAt 0 (exponentAt reading (now (means .entry)) (now (deviations .entry)) (now (logarithms .entry))) m (now (row .entry)) ⌝ }
+{
+    for a in 0..m {
+        let z = (reading - means[a]) / deviations[a];
+        row[a] = normal::lnpdf(z) - logarithms[a];
+    }
+}
+
+// A row of exponents becomes prediction × exponential, and their sum.
+fn weigh_exponents(predicted: &[f64; 256], m: usize, row: &mut [f64; 256]) -> f64
+    requires { ⌜ (m ≤ 256) × (length (now row) ≡ 256) ⌝ }
+    ensures row { λ _. ⌜ now (row .exit) ≡ fillAt 0 (weightOf (now (predicted .entry)) (now (row .entry))) m (now (row .entry)) ⌝ }
+    ensures total { λ r. ⌜ r ≡ sumUp (weightOf (now (predicted .entry)) (now (row .entry))) m ⌝ }
+{
+    let mut total = 0.0;
+    for a in 0..m {
+        let w = predicted[a] * exp::exp(row[a]);
+        row[a] = w;
+        total = total + w;
+    }
+    total
+}
+
 // Prediction × density for each window, and the sum of these weights.
 pub fn weigh(
     reading: f64,
@@ -208,12 +241,6 @@ pub fn weigh(
     ensures weights { λ _. ⌜ now (weights .exit) ≡ fillAt 0 (weightAt reading (now (means .entry)) (now (deviations .entry)) (now (logarithms .entry)) (now (predicted .entry))) m (now (weights .entry)) ⌝ }
     ensures total { λ r. ⌜ r ≡ sumUp (weightAt reading (now (means .entry)) (now (deviations .entry)) (now (logarithms .entry)) (now (predicted .entry))) m ⌝ }
 {
-    let mut total = 0.0;
-    for a in 0..m {
-        let z = (reading - means[a]) / deviations[a];
-        let w = predicted[a] * exp::exp(normal::lnpdf(z) - logarithms[a]);
-        weights[a] = w;
-        total = total + w;
-    }
-    total
+    exponents(reading, means, deviations, logarithms, m, weights);
+    weigh_exponents(predicted, m, weights)
 }
