@@ -8,7 +8,7 @@
 
 enum { SOUND, FAILING, REGIMES }; /* the labels, and how many they are */
 enum { ORDER = 1, READINGS = 12, ROWS = MSAR_ROWS(READINGS, ORDER), WINDOWS = MSAR_WINDOWS(REGIMES, ORDER) };
-enum { WORK = MSAR_WORK(ROWS, WINDOWS), TABLE = MSAR_TABLE(ROWS, REGIMES) };
+enum { WORK = MSAR_WORK_FILTER(ROWS, WINDOWS), TABLE = MSAR_TABLE(ROWS, REGIMES) };
 
 /* All that the calls are lent. */
 static double work[WORK], table[TABLE];

@@ -8,7 +8,7 @@
 
 enum { SOUND, FAILING, REGIMES }; /* the labels, and how many they are */
 enum { ORDER = 1, READINGS = 16, ROWS = MSAR_ROWS(READINGS, ORDER), WINDOWS = MSAR_WINDOWS(REGIMES, ORDER) };
-enum { WORK = MSAR_WORK(ROWS, WINDOWS), TABLE = MSAR_TABLE(ROWS, REGIMES) };
+enum { WORK = MSAR_WORK_SMOOTH(ROWS, WINDOWS), TABLE = MSAR_TABLE(ROWS, REGIMES) };
 
 /* a driver that loses some three decibels from the ninth reading on */
 static const double series[READINGS] = {0.2, -0.1, 0.9, 0.1, -1.4, 0.0, 0.8, -0.2, -2.1, -3.3, -1.8, -3.6, -3.1, -1.7, -3.4, -3.0};

@@ -26,9 +26,9 @@ extern "C" {
 #endif
 
 /* The version of the library that this file goes with; `msar --version` says it too. */
-#define MSAR_VERSION "0.2.0"
+#define MSAR_VERSION "0.3.0"
 #define MSAR_VERSION_MAJOR 0
-#define MSAR_VERSION_MINOR 2
+#define MSAR_VERSION_MINOR 3
 #define MSAR_VERSION_PATCH 0
 
 /* ---- sizes
@@ -47,10 +47,16 @@ extern "C" {
 #define MSAR_MOST_WINDOWS 256
 #define MSAR_MOST_READINGS 4096
 
-/* Lengths, constant where the arguments are: lent memory may be static. Within the limits an int holds them. */
-#define MSAR_ROWS(readings, order) ((readings) - (order)) /* n */
-#define MSAR_WORK(n, m) (3 * (n) * (m))                   /* of work, at least */
-#define MSAR_TABLE(n, k) ((n) * (k))                      /* of filtered and of smoothed, at least */
+/* Lengths, constant where the arguments are: lent memory may be static. Within the limits an int holds them. 1 * (n) is
+   an int where n is an enum's constant, whose product with another enum's C++20 deprecates. */
+#define MSAR_ROWS(readings, order) ((readings) - (order))          /* n */
+#define MSAR_WORK_FILTER(n, m) (1 * (n) * (m) + MSAR_MOST_WINDOWS) /* of work, at least: msar_loglike, msar_filter */
+#define MSAR_WORK_SMOOTH(n, m) (2 * (n) * (m))                     /* of work, at least: msar_smooth, msar_fit */
+#define MSAR_TABLE(n, k) (1 * (n) * (k))                           /* of filtered and of smoothed, at least */
+
+/* The larger of the two: enough work for every call. The arguments are evaluated more than once. */
+#define MSAR_WORK(n, m) \
+    (MSAR_WORK_FILTER(n, m) > MSAR_WORK_SMOOTH(n, m) ? MSAR_WORK_FILTER(n, m) : MSAR_WORK_SMOOTH(n, m))
 
 /* m, for an order up to MSAR_MOST_ORDER; the arguments are evaluated more than once. msar_windows gives it too, and
    checks k and order. 1 * (k) is an int where k is an enum's constant, which C++ would not have beside 1. */
@@ -169,12 +175,13 @@ bool msar_matches(size_t k, size_t order, bool switching_ar, bool switching_vari
 
 /* ---- calls on a series
 
-   work: at least MSAR_WORK(n, m) numbers, whatever they are; its first MSAR_WORK(n, m) are +0 afterwards. filtered
-   and smoothed: at least MSAR_TABLE(n, k) numbers each; P(label of row i is j) is written at MSAR_TABLE_AT(k, i, j).
-   What lies beyond these places is left as found. The checks come in this order: spec (1 to 3), series (4 to 6),
-   lent memory (7: work, then the tables in their order), parameters (10 to 18), shape (20), and for a fit 24 and 25.
-   Where one of these refuses, all lent memory is left as found; where the run itself refuses (21 to 23, 26, and in a
-   fit's own steps 11 and 13 to 16), the tables are left as found and work is cleared.
+   work: at least MSAR_WORK_FILTER(n, m) numbers for msar_loglike and msar_filter, at least MSAR_WORK_SMOOTH(n, m) for
+   msar_smooth and msar_fit, whatever they are; as many, from the first on, are +0 afterwards. filtered and smoothed: at
+   least MSAR_TABLE(n, k) numbers each; P(label of row i is j) is written at MSAR_TABLE_AT(k, i, j). What lies beyond
+   these places is left as found. The checks come in this order: spec (1 to 3), series (4 to 6), lent memory (7: work,
+   then the tables in their order), parameters (10 to 18), shape (20), and for a fit 24 and 25. Where one of these
+   refuses, all lent memory is left as found; where the run itself refuses (21 to 23, 26, and in a fit's own steps 11
+   and 13 to 16), the tables are left as found and work is cleared.
 
    At order 0 the calls follow the Rust they were ported from: every prediction but the first is column 0 of P,
    whatever came before, and the smoothed numbers are no probabilities: a row may total more than 1 and run to

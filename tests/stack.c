@@ -95,15 +95,22 @@ static void *lent(size_t count)
     return memory;
 }
 
+/* Of the work memory of every call, what this one needs. */
+static size_t need(void *(*call)(void *), size_t k, size_t order)
+{
+    size_t rows = MSAR_ROWS(READINGS, order), windows = MSAR_WINDOWS(k, order);
+
+    return call == loglike || call == filter ? MSAR_WORK_FILTER(rows, windows) : MSAR_WORK_SMOOTH(rows, windows);
+}
+
 static struct job job(size_t k, size_t order, bool switching_ar)
 {
     struct job j = {.k = k, .order = order, .switching_ar = switching_ar};
     size_t rows = MSAR_ROWS(READINGS, order), blocks = switching_ar ? k : 1, i, b, lag;
 
-    j.work_len = MSAR_WORK(rows, MSAR_WINDOWS(k, order));
     j.table_len = MSAR_TABLE(rows, k);
     j.series = lent(READINGS);
-    j.work = lent(j.work_len);
+    j.work = lent(MSAR_WORK(rows, MSAR_WINDOWS(k, order)));
     j.filtered = lent(j.table_len);
     j.smoothed = lent(j.table_len);
     for (i = 0; i < READINGS; i++)
@@ -136,7 +143,9 @@ int main(void)
     for (s = 0; s < sizeof sizes / sizeof *sizes; s++) {
         struct job j = job(sizes[s].k, sizes[s].order, sizes[s].switching_ar);
         for (c = 0; c < sizeof calls / sizeof *calls; c++) {
-            size_t used = depth(calls[c], &j) - own;
+            size_t used;
+            j.work_len = need(calls[c], j.k, j.order);
+            used = depth(calls[c], &j) - own;
             /* a fit of order 0 is refused */
             if (j.whole[MSAR_WHOLE_REFUSAL] != (calls[c] == fit && j.order == 0 ? MSAR_ORDER_ZERO : MSAR_ANSWERED))
                 stop("a call refused");

@@ -101,7 +101,8 @@ fn draw(k: usize, p: usize, readings: usize) -> Drawn {
     }
 }
 
-/// The memory that our calls are lent. Nothing is cleared between calls: each call clears its own work memory.
+/// The memory that our calls are lent. Work memory is one for all of them, and as much as any version of the library has asked
+/// for, so that two versions can be timed. Nothing is cleared between calls: each call clears what it needs of it.
 struct Lent {
     work: Vec<f64>,
     filtered: Vec<f64>,
@@ -115,9 +116,10 @@ impl Lent {
     fn new(d: &Drawn) -> Lent {
         let (k, p) = (d.spec.k_regimes, d.spec.order);
         let rows = d.series.len() - p;
+        let cells = rows * k.pow(p as u32 + 1);
         let table = vec![1.0; rows * k];
         Lent {
-            work: vec![1.0; 3 * rows * k.pow(p as u32 + 1)],
+            work: vec![1.0; 3 * cells + 256],
             filtered: table.clone(),
             smoothed: table,
             fitted: [1.0; 400],

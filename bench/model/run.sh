@@ -2,7 +2,7 @@
 # Times filter, smooth and fits of 20 passes beside the untouched Rust, and prints one table.
 # bench/model/run.sh SOURCES [all|fits [LIBRARY]]
 # SOURCES: the folder with model.rs, params.rs, spec.rs, linsolve.rs. LIBRARY: a folder with libc_interface.a to time instead of
-# this repository's. It leaves nothing behind but rt's own target/.
+# this repository's, of another version or made for another machine than x86-64. It leaves nothing behind but rt's own target/.
 set -euo pipefail
 
 stop() {
@@ -12,7 +12,7 @@ stop() {
 [[ $# -ge 1 && $# -le 3 ]] || stop "usage: $0 SOURCES [all|fits [LIBRARY]]"
 what=${2:-all}
 [[ $what == all || $what == fits ]] || stop "all or fits, not $what"
-[[ $(uname -m) == x86_64 ]] || stop "the archive that rt staticlib writes is for x86-64, and this machine is $(uname -m)"
+[[ $# -eq 3 || $(uname -m) == x86_64 ]] || stop "the archive that rt staticlib writes is for x86-64, and this machine is $(uname -m): name a LIBRARY"
 command -v rustc >/dev/null || stop "rustc is missing"
 sources=$(realpath "$1")
 here=$(cd "$(dirname "${BASH_SOURCE[0]}")" && pwd)

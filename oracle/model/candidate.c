@@ -1,6 +1,6 @@
-/* Answers the oracle's cases through the C interface of the library, and holds every call to what document 01 promises of
-   lent memory: candidate [short] <cases >answers. README.md has the lines. With `short` each model call is made again with
-   each lent memory one place short.
+/* Answers the oracle's cases through the C interface of the library, and holds every call to what document 01, and document 02
+   in Q-8, promise of lent memory: candidate [short] <cases >answers. README.md has the lines. With `short` each model call is
+   made again with each lent memory one place short.
 
    Whatever is lent holds a pattern that no call writes, and so do GUARD places before and behind it. */
 #define _POSIX_C_SOURCE 200809L
@@ -196,12 +196,12 @@ static bool takes(size_t i) {
     return false;
 }
 
-/* The lengths needed, zeros where spec and series have none. */
+/* The lengths that the call needs, zeros where spec and series have none. */
 static void needs(size_t need[MOST_LENT]) {
     size_t m = c.k, n = c.readings > c.p ? c.readings - c.p : 0;
     for (size_t l = 0; l < c.p && m > 1 && m <= 256; l++) m *= c.k;
-    bool any = c.k >= 2 && c.k <= 16 && m <= 256 && c.readings <= 4096;
-    need[0] = any ? 3 * n * m : 0;
+    bool any = c.k >= 2 && c.k <= 16 && m <= 256 && n > 0 && c.readings <= 4096;
+    need[0] = !any ? 0 : is_call("loglike") || is_call("filter") ? n * m + 256 : 2 * n * m;
     need[1] = need[2] = any ? n * c.k : 0;
 }
 

@@ -1,5 +1,5 @@
 """Compares answers to the same cases.
-compare.py CASES ORACLE CANDIDATE   every bit and every refusal; 7 is worked out from document 01, as the Rust has no lent memory.
+compare.py CASES ORACLE CANDIDATE   every bit and every refusal; 7 is worked out by protocol.py, as the Rust has no lent memory.
                                     Ends with status 1 where anything differs, or where a promise on lent memory is broken.
 compare.py --gaps ROUTED UNTOUCHED  how far the untouched Rust is from the routed one, as far as the shorter file goes; a gap is
                                     no failure."""

@@ -288,7 +288,7 @@ def at_fault(r, k, p):
 
 
 def short_memory(r, k, p):
-    return with_passes(r, gen.short_memory(r, k, p))
+    return with_passes(r, gen.short_memory(r, k, p, 'fit'))
 
 
 # ---- the families of gen.py, fitted

@@ -304,9 +304,11 @@ def at_fault(r, k, p):
     return c
 
 
-def short_memory(r, k, p):
-    """None, half, one less, just enough or one more of each; now and then with a fault beside it."""
+def short_memory(r, k, p, call=None):
+    """None, half, one less, just enough or one more of each that the call needs; the call is drawn unless given. Now and then
+    with a fault beside it."""
     c = benign(r, k, p)
+    c.call = call or c.call
     if r.random() < 0.3:
         r.choice(FAULTS)(r, c)
     needs = c.head().needs() or (0, 0, 0)

@@ -1,4 +1,5 @@
-"""Cases and answers as text; README.md has the lines. And what document 01 says of lent memory, which the Rust does not see."""
+"""Cases and answers as text; README.md has the lines. And what document 01, and document 02 in Q-8, say of lent memory, which the
+Rust does not see."""
 import struct
 from typing import NamedTuple
 
@@ -71,13 +72,16 @@ class Head(NamedTuple):
     memory: tuple
 
     def needs(self):
-        """Lengths needed of work, filtered and smoothed table, where spec and series have any."""
+        """Lengths needed of work, filtered and smoothed table, where spec and series have any. Work is the call's: loglike and
+        filter need another than smooth and fit; the other calls are lent none."""
         if not 2 <= self.k <= MOST_REGIMES or self.p > 7 or self.k ** (self.p + 1) > MOST_WINDOWS:
             return None
         if not self.p < self.readings <= MOST_READINGS:
             return None
         rows = self.readings - self.p
-        return 3 * rows * self.k ** (self.p + 1), rows * self.k, rows * self.k
+        cells = rows * self.k ** (self.p + 1)
+        work = cells + MOST_WINDOWS if self.call in ('loglike', 'filter') else 2 * cells
+        return work, rows * self.k, rows * self.k
 
     def lent(self):
         """Which of the three the call takes."""

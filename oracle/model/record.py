@@ -14,6 +14,7 @@ from protocol import HUGE, LENT, MODEL_CALLS, NAMES, ZERO, bits, ran, read_answe
 SEED = 1989
 PLACES = 25600  # what the program has of each memory
 READINGS = 40
+CELLS = PLACES // 3  # windows of all rows of a case, a third as when work memory had three tables: the recorded series stay
 FIT_READINGS = 12
 FIT_CELLS = 6000  # windows of all rows of all passes of a fit
 WHOLE_PAIRS = [(2, 0), (2, 1), (2, 7), (3, 2), (4, 3), (16, 0), (16, 1)]  # with every call and every flag
@@ -22,8 +23,8 @@ WHOLE_PAIRS = [(2, 0), (2, 1), (2, 7), (3, 2), (4, 3), (16, 0), (16, 1)]  # with
 # ---- the cases
 
 def shortened(c):
-    """No more than 40 readings, and no more than the program has memory for."""
-    rows = min(READINGS, PLACES // (3 * c.k ** (c.p + 1)))
+    """No more than 40 readings, and no more rows than CELLS has windows for."""
+    rows = min(READINGS, CELLS // c.k ** (c.p + 1))
     c.y = c.y[-min(READINGS, rows + c.p):]
     return c
 

@@ -74,7 +74,7 @@ def library_fit(library, d, x, max_iter=100, tol=1e-6):
     for place, count in parts:
         numbers[place:place + count] = x[taken:taken + count]
         taken += count
-    work, smoothed = np.zeros(3 * n * k ** (p + 1)), np.zeros(n * k)
+    work, smoothed = np.zeros(2 * n * k ** (p + 1)), np.zeros(n * k)
     library.msar_fit(size(k), size(p), ctypes.c_bool(False), ctypes.c_bool(bool(d['sv'])), at(y), size(len(y)), counts,
                      at(numbers), at(work), size(len(work)), at(smoothed), size(len(smoothed)), size(max_iter),
                      ctypes.c_double(tol), at(fitted), whole, at(real))

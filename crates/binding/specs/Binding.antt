@@ -1,6 +1,6 @@
 -- The checks of what a caller hands in: a series of T readings under a spec, the lengths of the memory that is lent, and the parameters under the spec.
--- Which memory a call needs stands with the call.
--- After document 01, "Refusals by number", 1 to 7 and 20, "Order for a model call", and "Bounds set by the port".
+-- Which of these lengths a call asks for stands with the call.
+-- After document 01, "Refusals by number", 1 to 7 and 20, "Order for a model call", and "Bounds set by the port"; of work memory document 02, Q-8.
 use Prim.Native.Nat.{ℕ, suc, _+_, _-_, _*_, _^_}
 use mathlib.Core.Bool.{not}
 use mathlib.Core.List.{List}
@@ -56,10 +56,14 @@ boundOf S y = boundAfter (boundCheck S y) S y
 
 -- ---- lent memory
 
--- 3 · n · m numbers of work memory, n · k of each table
-abbrev pub workNeed : MsarSpec → List Float → ℕ
-workNeed S y = 3 * ((length y - S .order) * S .«k_regimes» ^ suc (S .order))
+-- numbers of work memory: n · m + 256 for `loglike` and `filter`, 2 · n · m for `smooth` and `fit`
+abbrev pub filterNeed : MsarSpec → List Float → ℕ
+filterNeed S y = (length y - S .order) * S .«k_regimes» ^ suc (S .order) + 256
 
+abbrev pub smoothNeed : MsarSpec → List Float → ℕ
+smoothNeed S y = 2 * ((length y - S .order) * S .«k_regimes» ^ suc (S .order))
+
+-- n · k numbers of each table
 abbrev pub tableNeed : MsarSpec → List Float → ℕ
 tableNeed S y = (length y - S .order) * S .«k_regimes»
 

@@ -3,7 +3,7 @@
 ghost use mathlib.Core.Path.{_≡_};
 ghost use mathlib.Core.Bool.{not};
 ghost use mathlib.Core.List.{List};
-ghost use Prim.Native.Nat.{_≤_};
+ghost use Prim.Native.Nat.{_+_, _*_, _≤_};
 ghost use lib.Ieee.{Float};
 ghost use lib.ListN.{length};
 ghost use Rattle.refusal.specs.Checks.{_before_, _when_};
@@ -92,6 +92,22 @@ pub fn bind(s: MsarSpec, y: &[f64]) -> Bound
             power: windows / s.k_regimes,
         },
     }
+}
+
+// Work memory that `loglike` and `filter` need.
+pub fn filter_need(b: Bound) -> usize
+    requires { ⌜ b .rows * b .windows ≤ 4096 * 256 ⌝ }
+    ensures { λ r. ⌜ r ≡ b .rows * b .windows + 256 ⌝ }
+{
+    b.rows * b.windows + 256
+}
+
+// The same for `smooth` and `fit`.
+pub fn smooth_need(b: Bound) -> usize
+    requires { ⌜ b .rows * b .windows ≤ 4096 * 256 ⌝ }
+    ensures { λ r. ⌜ r ≡ 2 * (b .rows * b .windows) ⌝ }
+{
+    2 * (b.rows * b.windows)
 }
 
 // 7.

@@ -15,7 +15,7 @@ use Rattle.window.specs.Shape.{Shape}
 use Rattle.params.specs.declared.MsarParams.{MsarParams}
 use Rattle.params.specs.Parameters.{k, p}
 use Rattle.rows.specs.Rows.{windowsOf}
-use Rattle.binding.specs.Binding.{boundCheck, boundOf, workNeed, tableNeed, memoryCheck, paramsCheck, admittedCheck}
+use Rattle.binding.specs.Binding.{boundCheck, boundOf, filterNeed, smoothNeed, tableNeed, memoryCheck, paramsCheck, admittedCheck}
 use Rattle.binding.specs.declared.Bound.{Bound}
 use Rattle.binding.proofs.Passed.{fits, same-shape, bound-counts, rows-are, windows-are}
 
@@ -31,29 +31,36 @@ module _ (S : MsarSpec) (y : List Float) {b : Bound} (e : b ≡ boundOf S y) whe
   -- ---- what the call finds for its memory is what the definition asks, where the series passed
 
   module _ (d : boundCheck S y ≡ Passed) where
-    pub work-is : 3 * (b .rows * b .windows) ≡ workNeed S y
-    work-is = rw (rows-are S y e d, windows-are S y e d)
+    pub cells-are : b .rows * b .windows ≡ (length y - S .order) * S .«k_regimes» ^ suc (S .order)
+    cells-are = rw (rows-are S y e d, windows-are S y e d)
 
     pub table-is : b .rows * S .«k_regimes» ≡ tableNeed S y
     table-is = rw (rows-are S y e d)
 
-  module _ (work : ℕ) where
-    pub work-checked : {c : Check} → c ≡ memoryCheck work (3 * (b .rows * b .windows)) → boundCheck S y ≡ Passed → c ≡ memoryCheck work (workNeed S y)
-    work-checked h d = h ∙ ap (memoryCheck work) (work-is d)
+  -- work memory, by call
+  pub filter-need-is : {need : ℕ} → need ≡ b .rows * b .windows + 256 → boundCheck S y ≡ Passed → need ≡ filterNeed S y
+  filter-need-is h d = h ∙ ap (λ (x : ℕ). x + 256) (cells-are d)
+
+  pub smooth-need-is : {need : ℕ} → need ≡ 2 * (b .rows * b .windows) → boundCheck S y ≡ Passed → need ≡ smoothNeed S y
+  smooth-need-is h d = h ∙ ap (λ (x : ℕ). 2 * x) (cells-are d)
+
+  module _ {need needed : ℕ} (same : boundCheck S y ≡ Passed → need ≡ needed) (work : ℕ) where
+    pub work-checked : {c : Check} → c ≡ memoryCheck work need → boundCheck S y ≡ Passed → c ≡ memoryCheck work needed
+    work-checked h d = h ∙ ap (memoryCheck work) (same d)
 
     module _ (table : ℕ) where
-      pub one-checked : {c : Check} → c ≡ (memoryCheck work (3 * (b .rows * b .windows)) before memoryCheck table (b .rows * S .«k_regimes»))
-          → boundCheck S y ≡ Passed → c ≡ (memoryCheck work (workNeed S y) before memoryCheck table (tableNeed S y))
-      one-checked h d = h ∙ ap (λ (x : ℕ). memoryCheck work x before memoryCheck table (b .rows * S .«k_regimes»)) (work-is d) ∙ ap (λ (x : ℕ). memoryCheck work (workNeed S y) before memoryCheck table x) (table-is d)
+      pub one-checked : {c : Check} → c ≡ (memoryCheck work need before memoryCheck table (b .rows * S .«k_regimes»))
+          → boundCheck S y ≡ Passed → c ≡ (memoryCheck work needed before memoryCheck table (tableNeed S y))
+      one-checked h d = h ∙ ap (λ (x : ℕ). memoryCheck work x before memoryCheck table (b .rows * S .«k_regimes»)) (same d) ∙ ap (λ (x : ℕ). memoryCheck work needed before memoryCheck table x) (table-is d)
 
-      pub two-checked : (second : ℕ) {c one two : Check} → one ≡ (memoryCheck work (3 * (b .rows * b .windows)) before memoryCheck table (b .rows * S .«k_regimes»))
+      pub two-checked : (second : ℕ) {c one two : Check} → one ≡ (memoryCheck work need before memoryCheck table (b .rows * S .«k_regimes»))
           → two ≡ memoryCheck second (b .rows * S .«k_regimes») → c ≡ (one before two)
-          → boundCheck S y ≡ Passed → c ≡ (memoryCheck work (workNeed S y) before memoryCheck table (tableNeed S y) before memoryCheck second (tableNeed S y))
+          → boundCheck S y ≡ Passed → c ≡ (memoryCheck work needed before memoryCheck table (tableNeed S y) before memoryCheck second (tableNeed S y))
       two-checked second {c} {one} {two} h g f d =
           f
           ∙ ap (λ (x : Check). x before two) (one-checked h d)
-          ∙ ap (λ (x : Check). (memoryCheck work (workNeed S y) before memoryCheck table (tableNeed S y)) before x) (g ∙ ap (memoryCheck second) (table-is d))
-          ∙ before-assoc (memoryCheck work (workNeed S y)) _ _
+          ∙ ap (λ (x : Check). (memoryCheck work needed before memoryCheck table (tableNeed S y)) before x) (g ∙ ap (memoryCheck second) (table-is d))
+          ∙ before-assoc (memoryCheck work needed) _ _
 
   -- ---- an admitted call
 
@@ -65,7 +72,8 @@ module _ (S : MsarSpec) (y : List Float) {b : Bound} (e : b ≡ boundOf S y) whe
       pub rows-of : p q + b .rows ≡ length y
       pub some : 0 < b .rows
       pub short : length y ≤ 4096
-      pub need-is : 3 * (b .rows * b .windows) ≡ workNeed S y
+      pub filter-need : b .rows * b .windows + 256 ≡ filterNeed S y
+      pub smooth-need : 2 * (b .rows * b .windows) ≡ smoothNeed S y
       pub table-need : b .rows * k q ≡ tableNeed S y
       pub own-passed : own ≡ Passed
       pub params-pass : paramsCheck S q ≡ Passed
@@ -85,7 +93,8 @@ module _ (S : MsarSpec) (y : List Float) {b : Bound} (e : b ≡ boundOf S y) whe
           rows-of = omega (arith, n, s .1, f .longer);
           some = omega (arith, n, f .longer);
           short = f .short;
-          need-is = work-is (c₁ .0);
+          filter-need = filter-need-is refl (c₁ .0);
+          smooth-need = smooth-need-is refl (c₁ .0);
           table-need = ap (λ (x : ℕ). b .rows * x) (s .0) ∙ table-is (c₁ .0);
           own-passed = c₂ .0;
           params-pass = c₂ .1;

@@ -34,14 +34,9 @@ drop-more u v a b h d =
     let past : (l : List Float) → drop (v - u) (drop u l) ≡ drop v l = λ l. drop-drop (v - u) u l ∙ ap (λ (x : ℕ). drop x l) e in
     sym (past a) ∙ ap (drop (v - u)) d ∙ past b
 
-pub all-cleared : (u need : ℕ) → u ≤ need → (found ran : List Float) {w : List Float} → drop u ran ≡ drop u found
-    → w ≡ cleared need ran → w ≡ cleared need found
-all-cleared u need h found ran d e = e ∙ fillAt-over (λ _. zero⁺) need ran found (drop-more u need ran found h d)
-
--- n rows of m windows, filtered and predicted, are two thirds of the memory needed
-pub run-cleared : (n m : ℕ) (found ran : List Float) {w : List Float} → drop (2 * (n * m)) ran ≡ drop (2 * (n * m)) found
-    → w ≡ cleared (3 * (n * m)) ran → w ≡ cleared (3 * (n * m)) found
-run-cleared n m found ran d e = all-cleared (2 * (n * m)) (3 * (n * m)) (omega arith) found ran d e
+pub all-cleared : (u need : ℕ) (found ran : List Float) {w : List Float} → drop u ran ≡ drop u found → w ≡ cleared need ran → u ≤ need
+    → w ≡ cleared need found
+all-cleared u need found ran d e h = e ∙ fillAt-over (λ _. zero⁺) need ran found (drop-more u need ran found h d)
 
 -- ---- the start shares, then the filter from them
 
@@ -84,15 +79,15 @@ module _ (q : MsarParams) (m power n : ℕ) (pos : 0 < k q) (windows : m ≡ win
       ∙ ap (λ (x : ℕ). fillAt 0 (labelSumAt (k q) x m work) (n * k q) found) power-is
       ∙ fillAt-ext 0 _ (n * k q) found (resultAt (k q) (p q) rows) (tabulated (k q) (p q) pos m work rows n windows stand)
 
-  module _ (y shares work : List Float) (held : Held q y shares n m n work) where
-    pub smoothed-tabled : (after found : List Float) {table : List Float} → SmoothedRows q n work after
+  module _ (y shares work : List Float) {kept : ℕ} (held : Held q y shares n m kept n work) where
+    pub smoothed-tabled : 2 * n ≤ kept → (after found : List Float) {table : List Float} → SmoothedRows q n work after
         → table ≡ fillAt 0 (labelSumAt (k q) power m after) (n * k q) found → table ≡ fillAt 0 (resultAt (k q) (p q) (smoothedFrom q y shares n)) (n * k q) found
-    smoothed-tabled after found s e =
+    smoothed-tabled all after found s e =
         rows-tabled after found (smoothedFrom q y shares n)
         (λ i h. subst (λ (x : ℕ). Same x (drop (filteredFrom x i) after) (smoothedFrom q y shares n i)) (sym windows)
         (s .rows (predictedRow q y shares) (filteredRow q y shares)
-        (subst (λ (x : ℕ). (j : ℕ) → j < n → Same x (drop (predictedFrom n x j) work) (predictedRow q y shares j)) windows (held .predicted))
-        (subst (λ (x : ℕ). (j : ℕ) → j < n → Same x (drop (filteredFrom x j) work) (filteredRow q y shares j)) windows (held .filtered))
+        (subst (λ (x : ℕ). (j : ℕ) → j < n → Same x (drop (predictedFrom n x j) work) (predictedRow q y shares j)) windows (λ j h. held .predicted j h (omega arith)))
+        (subst (λ (x : ℕ). (j : ℕ) → j < n → Same x (drop (filteredFrom x j) work) (filteredRow q y shares j)) windows (λ j h. held .filtered j h (omega arith)))
         i h))
         e
 
@@ -101,11 +96,11 @@ module _ (q : MsarParams) (m power n : ℕ) (pos : 0 < k q) (windows : m ≡ win
       counted : n ≡ rowCount q y
       counted = omega arith
 
-      pub filtered-is : (found : List Float) {table : List Float} → table ≡ fillAt 0 (labelSumAt (k q) power m work) (n * k q) found → table ≡ filteredTable q y found
+      pub filtered-is : n ≤ kept → (found : List Float) {table : List Float} → table ≡ fillAt 0 (labelSumAt (k q) power m work) (n * k q) found → table ≡ filteredTable q y found
       unfolding filteredTable
-      filtered-is found e =
+      filtered-is all found e =
           rw passed
-          (rows-tabled work found (filteredRow q y shares) (held .filtered) e
+          (rows-tabled work found (filteredRow q y shares) (λ j h. held .filtered j h (omega arith)) e
           ∙ ap (λ (x : ℕ). fillAt 0 (resultAt (k q) (p q) (filteredRow q y shares)) (x * k q) found) counted
           ∙ ap (λ (x : List Float). tableOf q y (filteredRow q y x) found) start)
 
@@ -121,9 +116,9 @@ module _ (q : MsarParams) (m power n : ℕ) (pos : 0 < k q) (windows : m ≡ win
 pub windows-split : (k p : ℕ) {m power : ℕ} → m ≡ k ^ suc p → power ≡ k ^ p → power * k ≡ m
 windows-split k p e d = rw (e, d) (sym (pow-suc k p))
 
--- work memory is smaller than what a usize counts
-pub work-small : (q : MsarParams) (T m n : ℕ) → k q ^ suc (p q) ≤ 256 → m ≡ windowsOf q → p q + n ≡ T → T ≤ 4096 → 3 * (n * m) ≤ 3 * (4096 * 256)
-work-small q T m n few w r s =
+-- rows times windows are fewer than a usize counts
+pub cells-small : (q : MsarParams) (T m n : ℕ) → k q ^ suc (p q) ≤ 256 → m ≡ windowsOf q → p q + n ≡ T → T ≤ 4096 → n * m ≤ 4096 * 256
+cells-small q T m n few w r s =
     let a : n ≤ 4096 = omega arith in
     let b : m ≤ 256 = rw w few in
-    omega (arith, mul-le-mul a b)
+    mul-le-mul a b

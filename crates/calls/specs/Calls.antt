@@ -1,5 +1,5 @@
 -- The calls: for every input the answer, and all lent memory at exit as a function of what was lent.
--- After document 01, "Refusals by number" and "How much a contract says".
+-- After document 01, "Refusals by number" and "How much a contract says", and of work memory document 02, Q-8.
 use Prim.Native.Nat.{ℕ, _-_, _*_}
 use mathlib.Core.List.{List, []}
 use lib.ListN.{length}
@@ -13,7 +13,7 @@ use Rattle.spec.specs.declared.MsarSpec.{MsarSpec}
 use Rattle.params.specs.declared.MsarParams.{MsarParams}
 use Rattle.params.specs.Parameters.{k, p}
 use Rattle.stationary.specs.Stationary.{startShares}
-use Rattle.binding.specs.Binding.{admittedCheck, memoryCheck, workNeed, tableNeed}
+use Rattle.binding.specs.Binding.{admittedCheck, memoryCheck, filterNeed, smoothNeed, tableNeed}
 use Rattle.rows.specs.Rows.{resultAt}
 use Rattle.filter.specs.Filter.{predictedRow, filteredRow, rowCount, filterCheck, loglikOf, answerAfter}
 use Rattle.filter.specs.declared.Answer.{Answer}
@@ -72,26 +72,26 @@ called Passed work filtered smoothed run = run
 module _ (S : MsarSpec) (y : List Float) (q : MsarParams) (work : List Float) where
   unfoldable pub loglikeCall : Outcome
   loglikeCall =
-      called (admittedCheck S y (memoryCheck (length work) (workNeed S y)) q) work [] []
-      (record { answer = runAnswer q y; work = cleared (workNeed S y) work; filtered = []; smoothed = [] })
+      called (admittedCheck S y (memoryCheck (length work) (filterNeed S y)) q) work [] []
+      (record { answer = runAnswer q y; work = cleared (filterNeed S y) work; filtered = []; smoothed = [] })
 
   unfoldable pub filterCall : List Float → Outcome
   filterCall filtered =
       called
       (admittedCheck S y
-      (memoryCheck (length work) (workNeed S y)
+      (memoryCheck (length work) (filterNeed S y)
       before memoryCheck (length filtered) (tableNeed S y))
       q)
       work filtered []
-      (record { answer = runAnswer q y; work = cleared (workNeed S y) work; filtered = filteredTable q y filtered; smoothed = [] })
+      (record { answer = runAnswer q y; work = cleared (filterNeed S y) work; filtered = filteredTable q y filtered; smoothed = [] })
 
   unfoldable pub smoothCall : List Float → List Float → Outcome
   smoothCall filtered smoothed =
       called
       (admittedCheck S y
-      (memoryCheck (length work) (workNeed S y)
+      (memoryCheck (length work) (smoothNeed S y)
       before memoryCheck (length filtered) (tableNeed S y)
       before memoryCheck (length smoothed) (tableNeed S y))
       q)
       work filtered smoothed
-      (record { answer = runAnswer q y; work = cleared (workNeed S y) work; filtered = filteredTable q y filtered; smoothed = smoothedTable q y smoothed })
+      (record { answer = runAnswer q y; work = cleared (smoothNeed S y) work; filtered = filteredTable q y filtered; smoothed = smoothedTable q y smoothed })

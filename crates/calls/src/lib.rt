@@ -33,13 +33,14 @@ pub fn smooth_rows(
     requires { ⌜ Shape (k q) (p q) ⌝ }
     requires { ⌜ (m ≡ windowsOf q) × (power ≡ k q ^ p q) × (0 < n) × (2 * (n * m) ≤ length (now work)) × (n * k q ≤ length (now table)) ⌝ }
     ensures same { λ _. ⌜ (length (now (work .exit)) ≡ length (now (work .entry))) × (drop (n * m) (now (work .exit)) ≡ drop (n * m) (now (work .entry))) ⌝ }
-    ensures table { λ _. ⌜ ((y shares : List Float) → Held q y shares n m n (now (work .entry)) → now (table .exit) ≡ fillAt 0 (resultAt (k q) (p q) (smoothedFrom q y shares n)) (n * k q) (now (table .entry))) ⌝ }
+    ensures table { λ _. ⌜ ((y shares : List Float) → Held q y shares n m (2 * n) n (now (work .entry)) → now (table .exit) ≡ fillAt 0 (resultAt (k q) (p q) (smoothedFrom q y shares n)) (n * k q) (now (table .entry))) ⌝ }
 {
     smoother::smooth(q, power, n, work);
     rows::tabulate(work, q.means_count, power, m, n, table);
 }
 
-// A run is the start shares and the filter from them. Work memory is cleared after it, refused or not.
+// A run is the start shares and the filter from them, which keeps the rows that are read later. Work memory is cleared
+// after it, refused or not.
 fn run_loglike(
     q: MsarParams,
     power: usize,
@@ -49,13 +50,13 @@ fn run_loglike(
     work: &mut [f64],
 ) -> Answer
     requires { ⌜ Shape (k q) (p q) ⌝ }
-    requires { ⌜ (m ≡ windowsOf q) × (power ≡ k q ^ p q) × (p q + n ≡ length (now y)) × (length (now y) ≤ 4096) × (3 * (n * m) ≤ length (now work)) ⌝ }
+    requires { ⌜ (m ≡ windowsOf q) × (power ≡ k q ^ p q) × (p q + n ≡ length (now y)) × (length (now y) ≤ 4096) × (n * m + 256 ≤ length (now work)) ⌝ }
     ensures answer { λ r. ⌜ r ≡ runAnswer q (now (y .entry)) ⌝ }
-    ensures work { λ _. ⌜ now (work .exit) ≡ cleared (3 * (n * m)) (now (work .entry)) ⌝ }
+    ensures work { λ _. ⌜ now (work .exit) ≡ cleared (n * m + 256) (now (work .entry)) ⌝ }
 {
     let start = stationary::solved_shares(&q.transition, q.means_count);
-    let answer = filter::run(q, start, power, m, y, n, work);
-    rows::clear(work, 3 * (n * m));
+    let answer = filter::run(q, start, power, m, y, n, 0, work);
+    rows::clear(work, n * m + 256);
     answer
 }
 
@@ -67,25 +68,26 @@ fn run_filter(
     n: usize,
     y: &[f64],
     work: &mut [f64],
-    filtered: &mut [f64],
+    table: &mut [f64],
 ) -> Answer
     requires { ⌜ Shape (k q) (p q) ⌝ }
-    requires { ⌜ (m ≡ windowsOf q) × (power ≡ k q ^ p q) × (p q + n ≡ length (now y)) × (length (now y) ≤ 4096) × (3 * (n * m) ≤ length (now work)) × (n * k q ≤ length (now filtered)) ⌝ }
+    requires { ⌜ (m ≡ windowsOf q) × (power ≡ k q ^ p q) × (p q + n ≡ length (now y)) × (length (now y) ≤ 4096) × (n * m + 256 ≤ length (now work)) × (n * k q ≤ length (now table)) ⌝ }
     ensures answer { λ r. ⌜ r ≡ runAnswer q (now (y .entry)) ⌝ }
-    ensures work { λ _. ⌜ now (work .exit) ≡ cleared (3 * (n * m)) (now (work .entry)) ⌝ }
-    ensures filtered { λ _. ⌜ now (filtered .exit) ≡ filteredTable q (now (y .entry)) (now (filtered .entry)) ⌝ }
+    ensures work { λ _. ⌜ now (work .exit) ≡ cleared (n * m + 256) (now (work .entry)) ⌝ }
+    ensures table { λ _. ⌜ now (table .exit) ≡ filteredTable q (now (y .entry)) (now (table .entry)) ⌝ }
 {
     let start = stationary::solved_shares(&q.transition, q.means_count);
-    let answer = filter::run(q, start, power, m, y, n, work);
+    let answer = filter::run(q, start, power, m, y, n, n, work);
+    let need = n * m + 256;
     let check = answer.check;
     match check {
         Check::Passed => {
-            rows::tabulate(work, q.means_count, power, m, n, filtered);
-            rows::clear(work, 3 * (n * m));
+            rows::tabulate(work, q.means_count, power, m, n, table);
+            rows::clear(work, need);
             answer
         }
         Check::Failed(_) => {
-            rows::clear(work, 3 * (n * m));
+            rows::clear(work, need);
             answer
         }
     }
@@ -103,24 +105,25 @@ fn run_smooth(
     smoothed: &mut [f64],
 ) -> Answer
     requires { ⌜ Shape (k q) (p q) ⌝ }
-    requires { ⌜ (m ≡ windowsOf q) × (power ≡ k q ^ p q) × (p q + n ≡ length (now y)) × (length (now y) ≤ 4096) × (3 * (n * m) ≤ length (now work)) × (n * k q ≤ length (now filtered)) × (n * k q ≤ length (now smoothed)) × (0 < n) ⌝ }
+    requires { ⌜ (m ≡ windowsOf q) × (power ≡ k q ^ p q) × (p q + n ≡ length (now y)) × (length (now y) ≤ 4096) × (2 * (n * m) ≤ length (now work)) × (n * k q ≤ length (now filtered)) × (n * k q ≤ length (now smoothed)) × (0 < n) ⌝ }
     ensures answer { λ r. ⌜ r ≡ runAnswer q (now (y .entry)) ⌝ }
-    ensures work { λ _. ⌜ now (work .exit) ≡ cleared (3 * (n * m)) (now (work .entry)) ⌝ }
+    ensures work { λ _. ⌜ now (work .exit) ≡ cleared (2 * (n * m)) (now (work .entry)) ⌝ }
     ensures filtered { λ _. ⌜ now (filtered .exit) ≡ filteredTable q (now (y .entry)) (now (filtered .entry)) ⌝ }
     ensures smoothed { λ _. ⌜ now (smoothed .exit) ≡ smoothedTable q (now (y .entry)) (now (smoothed .entry)) ⌝ }
 {
     let start = stationary::solved_shares(&q.transition, q.means_count);
-    let answer = filter::run(q, start, power, m, y, n, work);
+    let answer = filter::run(q, start, power, m, y, n, 2 * n, work);
+    let need = 2 * (n * m);
     let check = answer.check;
     match check {
         Check::Passed => {
             rows::tabulate(work, q.means_count, power, m, n, filtered);
             smooth_rows(q, power, m, n, work, smoothed);
-            rows::clear(work, 3 * (n * m));
+            rows::clear(work, need);
             answer
         }
         Check::Failed(_) => {
-            rows::clear(work, 3 * (n * m));
+            rows::clear(work, need);
             answer
         }
     }
@@ -128,12 +131,12 @@ fn run_smooth(
 
 // ---- the calls
 
-// 7, for work memory and one table.
-pub fn memory(b: Bound, k: usize, work: usize, table: usize) -> Check
-    requires { ⌜ (b .rows * b .windows ≤ 4096 * 256) × (b .rows * k ≤ 4096 * 16) ⌝ }
-    ensures { λ r. ⌜ r ≡ (memoryCheck work (3 * (b .rows * b .windows)) before memoryCheck table (b .rows * k)) ⌝ }
+// 7, for work memory, of which `need` places are needed, and one table.
+pub fn memory(b: Bound, k: usize, need: usize, work: usize, table: usize) -> Check
+    requires { ⌜ b .rows * k ≤ 4096 * 16 ⌝ }
+    ensures { λ r. ⌜ r ≡ (memoryCheck work need before memoryCheck table (b .rows * k)) ⌝ }
 {
-    let at_work = binding::memory(work, 3 * (b.rows * b.windows));
+    let at_work = binding::memory(work, need);
     let at_table = binding::memory(table, b.rows * k);
     first_of(at_work, at_table)
 }
@@ -143,7 +146,8 @@ pub fn loglike(s: MsarSpec, y: &[f64], q: MsarParams, work: &mut [f64]) -> Answe
     ensures { λ r. ⌜ record { answer = r; work = now (work .exit); filtered = []; smoothed = [] } ≡ loglikeCall s (now (y .entry)) q (now (work .entry)) ⌝ }
 {
     let b = binding::bind(s, y);
-    let own = binding::memory(work.len(), 3 * (b.rows * b.windows));
+    let need = binding::filter_need(b);
+    let own = binding::memory(work.len(), need);
     let given = binding::parameters(s, q);
     let bound = b.check;
     match first_of(bound, first_of(own, given)) {
@@ -163,7 +167,8 @@ pub fn filter(
     ensures { λ r. ⌜ record { answer = r; work = now (work .exit); filtered = now (filtered .exit); smoothed = [] } ≡ filterCall s (now (y .entry)) q (now (work .entry)) (now (filtered .entry)) ⌝ }
 {
     let b = binding::bind(s, y);
-    let own = memory(b, s.k_regimes, work.len(), filtered.len());
+    let need = binding::filter_need(b);
+    let own = memory(b, s.k_regimes, need, work.len(), filtered.len());
     let given = binding::parameters(s, q);
     let bound = b.check;
     match first_of(bound, first_of(own, given)) {
@@ -184,7 +189,8 @@ pub fn smooth(
     ensures { λ r. ⌜ record { answer = r; work = now (work .exit); filtered = now (filtered .exit); smoothed = now (smoothed .exit) } ≡ smoothCall s (now (y .entry)) q (now (work .entry)) (now (filtered .entry)) (now (smoothed .entry)) ⌝ }
 {
     let b = binding::bind(s, y);
-    let own = memory(b, s.k_regimes, work.len(), filtered.len());
+    let need = binding::smooth_need(b);
+    let own = memory(b, s.k_regimes, need, work.len(), filtered.len());
     let third = binding::memory(smoothed.len(), b.rows * s.k_regimes);
     let given = binding::parameters(s, q);
     let bound = b.check;

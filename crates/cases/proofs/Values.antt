@@ -89,7 +89,7 @@ spec = record { «k_regimes» = 2; order = 1; «switching_ar» = false; «switch
 abbrev pub constant : List Float
 constant = two ∷ two ∷ []
 
-admitted : admittedCheck spec constant (memoryCheck 12 12 before memoryCheck 2 2) (twoRegimes 1 quarter quarter most most) ≡ Passed
+admitted : admittedCheck spec constant (memoryCheck 8 8 before memoryCheck 2 2) (twoRegimes 1 quarter quarter most most) ≡ Passed
 unfolding admittedCheck boundCheck specCheck lengthCheck readingsCheck readingCheck paramsCheck matchesSpec parameterCheck meanCheck entryCheck columnCheck arCheck varianceCheck columnSum sumUp isProbability usable each magnitudeOf lt le eq ofBits mul div add sub neg sum round size units odd span climb ofFields trailingZeros
 admitted = refl
 
@@ -97,7 +97,7 @@ checked : fitCheck (twoRegimes 1 quarter quarter most most) constant ≡ Failed 
 unfolding fitCheck usable lt ofBits
 checked = rw (variances.values .p9-constant)
 
-pub p9 : (maxIter : ℕ) (tol : Float) → fitCall spec constant (twoRegimes 1 quarter quarter most most) maxIter tol (replicate 12 zero⁺) (replicate 2 zero⁺) .answer .check
+pub p9 : (maxIter : ℕ) (tol : Float) → fitCall spec constant (twoRegimes 1 quarter quarter most most) maxIter tol (replicate 8 zero⁺) (replicate 2 zero⁺) .answer .check
     ≡ Failed (SampleVariance zero⁺)
 unfolding fitCall
 p9 maxIter tol = rw (admitted, checked)

@@ -298,7 +298,7 @@ fn constant_fit() -> Check
         switching_variance: false,
     };
     let constant = [2.0, 2.0];
-    let mut work = [0.0; 12];
+    let mut work = [0.0; 8];
     let mut smoothed = [0.0; 2];
     let q = two(1, 0.25, 0.25, 0.75, 0.75);
     let a = fit::fit(s, &constant, q, 100, 1e-8, &mut work, &mut smoothed);

@@ -5,14 +5,14 @@ use mathlib.Core.Bool.{true, false, not, true≢false}
 use mathlib.Core.List.{List}
 use mathlib.Core.Logic.{⊎-elim}
 use native.Mathlib.Numerals.{add-one}
-use native.Mathlib.Nat.{eq-or-lt-of-le, le-of-suc-le-suc, not-suc-le-zero}
+use native.Mathlib.Nat.{eq-or-lt-of-le, le-of-suc-le-suc, not-suc-le-zero, add-mul}
 use native.Mathlib.Omega.{arith}
 use lib.ListN.{length, drop}
 use lib.Ieee.{Float}
 use Rattle.number.specs.Number.{_⊕_, _⊗_, _⊘_, zero⁺, usable}
 use Rattle.number.specs.Table.{_!_, fillAt}
 use Rattle.number.proofs.Sums.{sum-none, sum-next, sum-ext}
-use Rattle.number.proofs.Table.{fill-at, row-before}
+use Rattle.number.proofs.Table.{fill-at}
 use Rattle.log.specs.Log.{logOf}
 use Rattle.refusal.specs.Checks.{each}
 use Rattle.refusal.specs.declared.Check.{Check}
@@ -29,7 +29,8 @@ use Rattle.params.specs.Parameters.{k, p}
 use Rattle.rows.specs.Rows.{Same, windowsOf}
 use Rattle.rows.specs.Memory.{predictedFrom}
 use Rattle.rows.proofs.Rows.{row-at}
-use Rattle.rows.proofs.Stored.{stored-long, stored-there, stored-before, stored-behind, stored-rest}
+use Rattle.rows.specs.Steps.{stored}
+use Rattle.rows.proofs.Stored.{row-long, row-there, rows-before, rows-behind, rest-behind}
 use Rattle.density.specs.Density.{density}
 use Rattle.prediction.specs.Steps.{firstAt, stepAt, laterAt}
 use Rattle.prediction.proofs.Predicted.{first-row-is, step-at, later-row-is}
@@ -52,22 +53,22 @@ module _ (q : MsarParams) (y : List Float) (i : ℕ) (pos : 0 < k q) (row row′
 
 -- ---- before row i
 
-pub record Kept (q : MsarParams) (y shares : List Float) (n m : ℕ) (work₀ : List Float) (i : ℕ) (predicted : List Float) (loglik : Float) (work : List Float) : Type 0 where
+pub record Kept (q : MsarParams) (y shares : List Float) (n m kept : ℕ) (work₀ : List Float) (i : ℕ) (predicted : List Float) (loglik : Float) (work : List Float) : Type 0 where
   pub passed-so-far : each i (likelihoodCheck q y shares) ≡ Passed
   pub next : Same m predicted (predictedRow q y shares i)
   pub loglik-is : loglik ≡ loglikTo q y shares i
   pub long : length work ≡ length work₀
-  pub rest : drop (2 * (n * m)) work ≡ drop (2 * (n * m)) work₀
-  pub rows : Held q y shares n m i work
+  pub rest : drop (kept * m) work ≡ drop (kept * m) work₀
+  pub rows : Held q y shares n m kept i work
 
-module _ (q : MsarParams) (y shares : List Float) (n m : ℕ) (work₀ : List Float) (pos : 0 < k q) (windows : m ≡ windowsOf q) where
+module _ (q : MsarParams) (y shares : List Float) (n m kept : ℕ) (work₀ : List Float) (pos : 0 < k q) (windows : m ≡ windowsOf q) where
   in-row : (a : ℕ) → a < m → a < windowsOf q
   in-row a h = subst (λ (x : ℕ). a < x) windows h
 
   of-row : (row row′ : List Float) → Same m row row′ → Same (windowsOf q) row row′
   of-row row row′ same a h = same a (subst (λ (x : ℕ). a < x) (sym windows) h)
 
-  pub kept-none : (l predicted : List Float) → predicted ≡ fillAt 0 (firstAt q shares) m l → Kept q y shares n m work₀ 0 predicted zero⁺ work₀
+  pub kept-none : (l predicted : List Float) → predicted ≡ fillAt 0 (firstAt q shares) m l → Kept q y shares n m kept work₀ 0 predicted zero⁺ work₀
   unfolding predictedRow loglikTo
   kept-none l predicted e =
       record {
@@ -76,34 +77,34 @@ module _ (q : MsarParams) (y shares : List Float) (n m : ℕ) (work₀ : List Fl
         loglik-is = sum-none _;
         long = refl;
         rest = refl;
-        rows = record { predicted = λ j h. absurd (not-suc-le-zero h); filtered = λ j h. absurd (not-suc-le-zero h) };
+        rows = record { predicted = λ j h g. absurd (not-suc-le-zero h); filtered = λ j h g. absurd (not-suc-le-zero h) };
       }
 
-  module _ (i : ℕ) (predicted weights work : List Float) (ll lik : Float) (kept : Kept q y shares n m work₀ i predicted ll work)
+  module _ (i : ℕ) (predicted weights work : List Float) (ll lik : Float) (so-far : Kept q y shares n m kept work₀ i predicted ll work)
       (weighed : Weighed q y m i predicted weights lik) where
     likelihood-is : lik ≡ likelihood q y shares i
     unfolding likelihood
-    likelihood-is = weighed .likelihood-is ∙ total-same q y i pos predicted (predictedRow q y shares i) (of-row predicted (predictedRow q y shares i) (kept .next))
+    likelihood-is = weighed .likelihood-is ∙ total-same q y i pos predicted (predictedRow q y shares i) (of-row predicted (predictedRow q y shares i) (so-far .next))
 
     pub kept-bad : i < n → usable lik ≡ false → each n (likelihoodCheck q y shares) ≡ Failed (Likelihood i)
     unfolding likelihoodCheck
-    kept-bad h u = each-found _ i (kept .passed-so-far) n h (refused _ (ap (λ (x : Float). not (usable x)) likelihood-is) (rw u))
+    kept-bad h u = each-found _ i (so-far .passed-so-far) n h (refused _ (ap (λ (x : Float). not (usable x)) likelihood-is) (rw u))
 
-    -- row i is done: its weights are divided and stored behind its prediction
+    -- row i is done: its weights are divided, and stored where they are kept; its prediction likewise, behind them
     module _ (steps filtered later work′ l : List Float) (power : ℕ) (good : usable lik ≡ true)
         (steps-are : steps ≡ fillAt 0 (stepAt q) m l) (power-is : power ≡ k q ^ p q)
         (filtered-are : filtered ≡ fillAt 0 (λ a. weights ! a ⊘ lik) m weights)
         (later-are : later ≡ fillAt 0 (laterAt (k q) power steps filtered) m predicted)
         (counted : k q * power ≡ m)
-        (work-is : work′ ≡ fillAt (n * m + i * m) (λ a. predicted ! a) m (fillAt (i * m) (λ a. filtered ! a) m work))
-        (inside : i < n) (fits : 2 * (n * m) ≤ length work₀) (logarithm : Float) (logarithm-is : logarithm ≡ logOf lik) where
+        (work-is : work′ ≡ stored m kept (n + i) predicted (stored m kept i filtered work))
+        (inside : i < n) (fits : kept * m ≤ length work₀) (logarithm : Float) (logarithm-is : logarithm ≡ logOf lik) where
       filtered-is : Same m filtered (filteredRow q y shares i)
       unfolding filteredRow updated
       filtered-is a h =
           fill-at _ m weights filtered-are a h
-          ∙ ap (λ (x : Float). x ⊘ lik) (weighed .weights-are a h ∙ weight-same q y i pos predicted (predictedRow q y shares i) (of-row predicted (predictedRow q y shares i) (kept .next)) a (in-row a h))
+          ∙ ap (λ (x : Float). x ⊘ lik) (weighed .weights-are a h ∙ weight-same q y i pos predicted (predictedRow q y shares i) (of-row predicted (predictedRow q y shares i) (so-far .next)) a (in-row a h))
           ∙ ap (λ (x : Float). weight q y i (predictedRow q y shares i) (labels (k q) (suc (p q)) a) ⊘ x)
-          (weighed .likelihood-is ∙ total-same q y i pos predicted (predictedRow q y shares i) (of-row predicted (predictedRow q y shares i) (kept .next)))
+          (weighed .likelihood-is ∙ total-same q y i pos predicted (predictedRow q y shares i) (of-row predicted (predictedRow q y shares i) (so-far .next)))
           ∙ sym (row-at (k q) (p q) _ a (in-row a h))
 
       next-is : Same m later (predictedRow q y shares (i + 1))
@@ -117,55 +118,60 @@ module _ (q : MsarParams) (y shares : List Float) (n m : ℕ) (work₀ : List Fl
 
       -- the filtered row is stored first, the prediction behind all filtered rows
       half : List Float
-      half = fillAt (i * m) (λ a. filtered ! a) m work
+      half = stored m kept i filtered work
 
-      room : i * m + m ≤ n * m
-      room = row-before m i n inside
+      room : kept * m ≤ length work
+      room = omega (arith, fits, so-far .long)
 
-      first-fits : i * m + m ≤ length work
-      first-fits = omega (arith, room, fits, kept .long)
-
-      second-fits : n * m + i * m + m ≤ length half
+      room-behind : kept * m ≤ length half
       unfolding half
-      second-fits = omega (arith, room, fits, kept .long, stored-long (i * m) m (λ a. filtered ! a) work first-fits refl)
+      room-behind = omega (arith, room, row-long m kept i filtered work refl room)
 
-      held : Held q y shares n m (i + 1) work′
+      behind : (j : ℕ) → (n + j) * m ≡ predictedFrom n m j
+      behind j = add-mul n j m
+
+      held : Held q y shares n m kept (i + 1) work′
       unfolding half
       held =
           record {
-            filtered = λ j h. ⊎-elim
-                (λ (d : j ≡ i). rw d (λ a g. stored-before _ m _ half second-fits work-is (i * m) (omega (arith, room)) a g ∙ stored-there _ m _ work first-fits refl a g ∙ filtered-is a g))
-                (λ (l : j < i) a g. stored-before _ m _ half second-fits work-is (j * m) (omega (arith, row-before m j i l)) a g ∙ stored-before _ m _ work first-fits refl (j * m) (row-before m j i l) a g ∙ kept .rows .filtered j l a g)
+            filtered = λ j h g. ⊎-elim
+                (λ (d : j ≡ i) a x. rows-before m kept (n + i) predicted half work-is room-behind j (omega (arith, d, inside)) a x
+                ∙ subst (λ (b : ℕ). b < kept → drop (b * m) half ! a ≡ filteredRow q y shares b ! a) (sym d) (λ k. row-there m kept i filtered work refl room k a x ∙ filtered-is a x) g)
+                (λ (l : j < i) a x. rows-before m kept (n + i) predicted half work-is room-behind j (omega arith) a x ∙ rows-before m kept i filtered work refl room j l a x ∙ so-far .rows .filtered j l g a x)
                 (eq-or-lt-of-le (le-of-suc-le-suc (rw add-one at h)));
-            predicted = λ j h. ⊎-elim
-                (λ (d : j ≡ i). rw d (λ a g. stored-there _ m _ half second-fits work-is a g ∙ kept .next a g))
-                (λ (l : j < i) a g. stored-before _ m _ half second-fits work-is (predictedFrom n m j) (omega (arith, row-before m j i l)) a g ∙ stored-behind _ m _ work first-fits refl (predictedFrom n m j) (omega (arith, room)) a g ∙ kept .rows .predicted j l a g)
-                (eq-or-lt-of-le (le-of-suc-le-suc (rw add-one at h)));
+            predicted = λ j h g. subst (λ (b : ℕ). Same m (drop b work′) (predictedRow q y shares j)) (behind j)
+                (⊎-elim
+                (λ (d : j ≡ i) a x. subst (λ (b : ℕ). n + b < kept → drop ((n + b) * m) work′ ! a ≡ predictedRow q y shares b ! a) (sym d)
+                (λ k. row-there m kept (n + i) predicted half work-is room-behind k a x ∙ so-far .next a x) g)
+                (λ (l : j < i) a x. rows-before m kept (n + i) predicted half work-is room-behind (n + j) (omega arith) a x
+                ∙ rows-behind m kept i filtered work refl room (n + j) (omega arith) a x
+                ∙ ap (λ (b : ℕ). drop b work ! a) (behind j) ∙ so-far .rows .predicted j l g a x)
+                (eq-or-lt-of-le (le-of-suc-le-suc (rw add-one at h))));
           }
 
-      pub kept-more : Kept q y shares n m work₀ (i + 1) later (ll ⊕ logarithm) work′
+      pub kept-more : Kept q y shares n m kept work₀ (i + 1) later (ll ⊕ logarithm) work′
       unfolding loglikTo likelihoodCheck half
       kept-more =
           record {
-            passed-so-far = each-more _ i (kept .passed-so-far) (passed _ (ap (λ (x : Float). not (usable x)) likelihood-is) (rw good));
+            passed-so-far = each-more _ i (so-far .passed-so-far) (passed _ (ap (λ (x : Float). not (usable x)) likelihood-is) (rw good));
             next = next-is;
-            loglik-is = sum-next _ i (kept .loglik-is) (logarithm-is ∙ ap logOf likelihood-is);
-            long = stored-long _ m _ half second-fits work-is ∙ stored-long _ m _ work first-fits refl ∙ kept .long;
-            rest = stored-rest _ m _ half second-fits work-is (2 * (n * m)) (omega (arith, room)) ∙ stored-rest _ m _ work first-fits refl (2 * (n * m)) (omega (arith, room)) ∙ kept .rest;
+            loglik-is = sum-next _ i (so-far .loglik-is) (logarithm-is ∙ ap logOf likelihood-is);
+            long = row-long m kept (n + i) predicted half work-is room-behind ∙ row-long m kept i filtered work refl room ∙ so-far .long;
+            rest = rest-behind m kept (n + i) predicted half work-is room-behind ∙ rest-behind m kept i filtered work refl room ∙ so-far .rest;
             rows = held;
           }
 
 -- ---- after the last row
 
-module _ (q : MsarParams) (y shares : List Float) (n m : ℕ) (work₀ : List Float) (i : ℕ) (predicted work : List Float) (ll : Float)
-    (kept : Kept q y shares n m work₀ i predicted ll work) (all : i ≡ n) where
+module _ (q : MsarParams) (y shares : List Float) (n m kept : ℕ) (work₀ : List Float) (i : ℕ) (predicted work : List Float) (ll : Float)
+    (so-far : Kept q y shares n m kept work₀ i predicted ll work) (all : i ≡ n) where
   pub answer-is : record { check = Passed; loglik = ll } ≡ answerAfter (each n (likelihoodCheck q y shares)) (loglikTo q y shares n)
   answer-is =
-      ap (λ (x : Float). answerAfter Passed x) (kept .loglik-is ∙ ap (loglikTo q y shares) all)
-      ∙ ap (λ (d : Check). answerAfter d (loglikTo q y shares n)) (sym (sym (ap (λ (j : ℕ). each j (likelihoodCheck q y shares)) all) ∙ kept .passed-so-far))
+      ap (λ (x : Float). answerAfter Passed x) (so-far .loglik-is ∙ ap (loglikTo q y shares) all)
+      ∙ ap (λ (d : Check). answerAfter d (loglikTo q y shares n)) (sym (sym (ap (λ (j : ℕ). each j (likelihoodCheck q y shares)) all) ∙ so-far .passed-so-far))
 
-  pub all-held : Held q y shares n m n work
-  all-held = subst (λ (j : ℕ). Held q y shares n m j work) all (kept .rows)
+  pub all-held : Held q y shares n m kept n work
+  all-held = subst (λ (j : ℕ). Held q y shares n m kept j work) all (so-far .rows)
 
 -- ---- an answer that refuses has not passed
 

@@ -1,6 +1,6 @@
 -- What the steps of the code are handed and leave: the tables that are made once a call, and the rows that stand in work memory. The proofs show
 -- that the rows are the filter's.
-use Prim.Native.Nat.{ℕ, suc, _^_, _<_}
+use Prim.Native.Nat.{ℕ, suc, _+_, _^_, _<_}
 use mathlib.Core.Path.{_≡_}
 use mathlib.Core.List.{List}
 use lib.ListN.{drop, replicate}
@@ -26,7 +26,7 @@ pub record Weighed (q : MsarParams) (y : List Float) (m i : ℕ) (predicted weig
   pub weights-are : (a : ℕ) → a < m → weights ! a ≡ weight q y i predicted (labels (k q) (suc (p q)) a)
   pub likelihood-is : likelihood ≡ total q y i predicted
 
--- of n rows those before row i stand in work memory
-pub record Held (q : MsarParams) (y shares : List Float) (n m i : ℕ) (work : List Float) : Type 0 where
-  pub filtered : (j : ℕ) → j < i → Same m (drop (filteredFrom m j) work) (filteredRow q y shares j)
-  pub predicted : (j : ℕ) → j < i → Same m (drop (predictedFrom n m j) work) (predictedRow q y shares j)
+-- of n rows those before row i stand in work memory, where they are among the first `kept`: the filtered rows count first, the predicted behind them
+pub record Held (q : MsarParams) (y shares : List Float) (n m kept i : ℕ) (work : List Float) : Type 0 where
+  pub filtered : (j : ℕ) → j < i → j < kept → Same m (drop (filteredFrom m j) work) (filteredRow q y shares j)
+  pub predicted : (j : ℕ) → j < i → n + j < kept → Same m (drop (predictedFrom n m j) work) (predictedRow q y shares j)

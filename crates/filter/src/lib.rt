@@ -11,6 +11,7 @@ ghost use Rattle.window.specs.Shape.{Shape};
 ghost use Rattle.params.specs.declared.MsarParams.{MsarParams};
 ghost use Rattle.params.specs.Parameters.{k, p};
 ghost use Rattle.rows.specs.Rows.{windowsOf};
+ghost use Rattle.rows.specs.Steps.{stored};
 ghost use Rattle.prediction.specs.Steps.{laterAt, stepAt};
 ghost use Rattle.filter.specs.Filter.{likelihoodCheck, loglikTo, answerAfter, filterAnswer};
 ghost use Rattle.filter.specs.Steps.{Scales, Weighed, Held};
@@ -80,23 +81,25 @@ pub fn divide(weights: &mut [f64; 256], likelihood: f64, m: usize)
     }
 }
 
-// Filtered and predicted weights of row i of n, to their places in work memory.
+// Filtered and predicted weights of row i of n, to work memory: the filtered rows are the first n there, the predicted
+// ones the next n, and the first `kept` of all these are kept.
 fn keep(
     predicted: &[f64; 256],
     filtered: &[f64; 256],
     n: usize,
     m: usize,
     i: usize,
+    kept: usize,
     work: &mut [f64],
 )
-    requires { ⌜ (m ≤ 256) × (i < n) × (2 * (n * m) ≤ length (now work)) ⌝ }
-    ensures { λ _. ⌜ now (work .exit) ≡ fillAt (n * m + i * m) (λ a. now (predicted .entry) ! a) m (fillAt (i * m) (λ a. now (filtered .entry) ! a) m (now (work .entry))) ⌝ }
+    requires { ⌜ (m ≤ 256) × (i < n) × (n ≤ 4096) × (kept * m ≤ length (now work)) ⌝ }
+    ensures { λ _. ⌜ now (work .exit) ≡ stored m kept (n + i) (now (predicted .entry)) (stored m kept i (now (filtered .entry)) (now (work .entry))) ⌝ }
 {
-    number::copy(filtered, m, work, i * m);
-    number::copy(predicted, m, work, n * m + i * m);
+    rows::store(filtered, m, i, kept, work);
+    rows::store(predicted, m, n + i, kept, work);
 }
 
-// Row i is done: its weights are divided, kept with its prediction, and give the prediction of the next row.
+// Row i is done: its weights are divided, kept with its prediction as far as `kept` says, and give the next prediction.
 fn advance(
     steps: &[f64; 256],
     likelihood: f64,
@@ -105,17 +108,18 @@ fn advance(
     m: usize,
     i: usize,
     n: usize,
+    kept: usize,
     predicted: &mut [f64; 256],
     weights: &mut [f64; 256],
     work: &mut [f64],
 )
-    requires { ⌜ (0 < k) × (k * power ≡ m) × (m ≤ 256) × (i < n) × (length (now predicted) ≡ 256) × (length (now weights) ≡ 256) × (2 * (n * m) ≤ length (now work)) ⌝ }
+    requires { ⌜ (0 < k) × (k * power ≡ m) × (m ≤ 256) × (i < n) × (n ≤ 4096) × (length (now predicted) ≡ 256) × (length (now weights) ≡ 256) × (kept * m ≤ length (now work)) ⌝ }
     ensures weights { λ _. ⌜ now (weights .exit) ≡ fillAt 0 (λ a. now (weights .entry) ! a ⊘ likelihood) m (now (weights .entry)) ⌝ }
     ensures predicted { λ _. ⌜ now (predicted .exit) ≡ fillAt 0 (laterAt k power (now (steps .entry)) (now (weights .exit))) m (now (predicted .entry)) ⌝ }
-    ensures work { λ _. ⌜ now (work .exit) ≡ fillAt (n * m + i * m) (λ a. now (predicted .entry) ! a) m (fillAt (i * m) (λ a. now (weights .exit) ! a) m (now (work .entry))) ⌝ }
+    ensures work { λ _. ⌜ now (work .exit) ≡ stored m kept (n + i) (now (predicted .entry)) (stored m kept i (now (weights .exit)) (now (work .entry))) ⌝ }
 {
     divide(weights, likelihood, m);
-    keep(predicted, weights, n, m, i, work);
+    keep(predicted, weights, n, m, i, kept, work);
     prediction::later_row(steps, weights, k, power, predicted);
 }
 
@@ -131,15 +135,16 @@ fn each_row(
     m: usize,
     y: &[f64],
     n: usize,
+    kept: usize,
     work: &mut [f64],
 ) -> Answer
     requires { ⌜ Shape (k q) (p q) ⌝ }
-    requires { ⌜ (m ≡ windowsOf q) × (k q * power ≡ m) × (power ≡ k q ^ p q) × (p q + n ≡ length (now y)) × (length (now y) ≤ 4096) × (2 * (n * m) ≤ length (now work)) ⌝ }
+    requires { ⌜ (m ≡ windowsOf q) × (k q * power ≡ m) × (power ≡ k q ^ p q) × (p q + n ≡ length (now y)) × (length (now y) ≤ 4096) × (kept * m ≤ length (now work)) ⌝ }
     requires { ⌜ now steps ≡ fillAt 0 (stepAt q) m (replicate 256 zero⁺) ⌝ }
     requires { ⌜ Scales q (k q) (p q) m (q .means) (now phis) (now deviations) (now logarithms) ⌝ }
     ensures answer { λ r. ⌜ r ≡ answerAfter (each n (likelihoodCheck q (now (y .entry)) (now (shares .entry)))) (loglikTo q (now (y .entry)) (now (shares .entry)) n) ⌝ }
-    ensures same { λ _. ⌜ (length (now (work .exit)) ≡ length (now (work .entry))) × (drop (2 * (n * m)) (now (work .exit)) ≡ drop (2 * (n * m)) (now (work .entry))) ⌝ }
-    ensures rows { λ r. ⌜ (r .check ≡ Passed → Held q (now (y .entry)) (now (shares .entry)) n m n (now (work .exit))) ⌝ }
+    ensures same { λ _. ⌜ (length (now (work .exit)) ≡ length (now (work .entry))) × (drop (kept * m) (now (work .exit)) ≡ drop (kept * m) (now (work .entry))) ⌝ }
+    ensures rows { λ r. ⌜ (r .check ≡ Passed → Held q (now (y .entry)) (now (shares .entry)) n m kept n (now (work .exit))) ⌝ }
 {
     let mut predicted = [0.0; 256];
     prediction::first_row(q, shares, m, &mut predicted);
@@ -174,6 +179,7 @@ fn each_row(
             m,
             i,
             n,
+            kept,
             &mut predicted,
             &mut weights,
             work,
@@ -187,7 +193,7 @@ fn each_row(
 }
 
 // The filter of a series from its start shares: their refusal, else the rows. n is the count of rows, m that of windows,
-// power k^order.
+// power k^order. It keeps the first `kept` of the n filtered and the n predicted rows: none, n, or all 2 · n.
 pub fn run(
     q: MsarParams,
     start: Shares,
@@ -195,13 +201,14 @@ pub fn run(
     m: usize,
     y: &[f64],
     n: usize,
+    kept: usize,
     work: &mut [f64],
 ) -> Answer
     requires { ⌜ Shape (k q) (p q) ⌝ }
-    requires { ⌜ (m ≡ windowsOf q) × (power ≡ k q ^ p q) × (p q + n ≡ length (now y)) × (length (now y) ≤ 4096) × (2 * (n * m) ≤ length (now work)) ⌝ }
+    requires { ⌜ (m ≡ windowsOf q) × (power ≡ k q ^ p q) × (p q + n ≡ length (now y)) × (length (now y) ≤ 4096) × (kept * m ≤ length (now work)) ⌝ }
     ensures answer { λ r. ⌜ r ≡ filterAnswer q (now (y .entry)) start ⌝ }
-    ensures same { λ _. ⌜ (length (now (work .exit)) ≡ length (now (work .entry))) × (drop (2 * (n * m)) (now (work .exit)) ≡ drop (2 * (n * m)) (now (work .entry))) ⌝ }
-    ensures rows { λ r. ⌜ (r .check ≡ Passed → Held q (now (y .entry)) (start .values) n m n (now (work .exit))) ⌝ }
+    ensures same { λ _. ⌜ (length (now (work .exit)) ≡ length (now (work .entry))) × (drop (kept * m) (now (work .exit)) ≡ drop (kept * m) (now (work .entry))) ⌝ }
+    ensures rows { λ r. ⌜ (r .check ≡ Passed → Held q (now (y .entry)) (start .values) n m kept n (now (work .exit))) ⌝ }
 {
     let check = start.check;
     if let Check::Failed(r) = check {
@@ -223,6 +230,7 @@ pub fn run(
         m,
         y,
         n,
+        kept,
         work,
     )
 }

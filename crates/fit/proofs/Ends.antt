@@ -23,7 +23,7 @@ use Rattle.params.proofs.Within.{within}
 use Rattle.refusal.specs.Checks.{_before_, _when_}
 use Rattle.refusal.proofs.Checks.{both, untrue}
 use Rattle.rows.specs.Rows.{windowsOf}
-use Rattle.binding.specs.Binding.{boundOf, memoryCheck, workNeed, tableNeed, paramsCheck, admittedCheck}
+use Rattle.binding.specs.Binding.{boundOf, memoryCheck, smoothNeed, tableNeed, paramsCheck, admittedCheck}
 use Rattle.binding.specs.declared.Bound.{Bound}
 use Rattle.em_sample_variance.specs.Series.{sampleVariance}
 use Rattle.em_ridge.specs.Ridge.{small}
@@ -79,11 +79,11 @@ pub record Closing (q : MsarParams) (y : List Float) (power m n lent room : ℕ)
   pub power-is : power ≡ k q ^ p q
   pub rows-are : p q + n ≡ length y
   pub short : length y ≤ 4096
-  pub work-fits : 3 * (n * m) ≤ lent
+  pub work-fits : 2 * (n * m) ≤ lent
   pub table-fits : n * k q ≤ room
 
 pub closing-ready : {q start : MsarParams} {y : List Float} {floor : Float} {power m n lent lent′ room : ℕ} → Alike q start → Ready start y floor power n lent
-    → m ≡ windowsOf start → 3 * (n * m) ≤ lent → n * k start ≤ room → lent′ ≡ lent → Closing q y power m n lent′ room
+    → m ≡ windowsOf start → 2 * (n * m) ≤ lent → n * k start ≤ room → lent′ ≡ lent → Closing q y power m n lent′ room
 closing-ready {q} {start} {n = n} {room = room} a ready windows work table e =
     let r = still-ready a ready in
     record {
@@ -188,7 +188,7 @@ module _ {S : MsarSpec} {y : List Float} {b : Bound} {e : b ≡ boundOf S y} {q 
   unfolding paramsCheck
   params-checked = both (parameterCheck q) (a .params-pass) .0
 
-  pub fit-ready : (lent : ℕ) {floor : Float} → workNeed S y ≤ lent → fitCheck q y ≡ Passed → floor ≡ small ⊗ sampleVariance y
+  pub fit-ready : (lent : ℕ) {floor : Float} → smoothNeed S y ≤ lent → fitCheck q y ≡ Passed → floor ≡ small ⊗ sampleVariance y
       → Ready q y floor (b .power) (b .rows) lent
   fit-ready lent l passed f =
       let w = within q params-checked in
@@ -199,7 +199,7 @@ module _ {S : MsarSpec} {y : List Float} {b : Bound} {e : b ≡ boundOf S y} {q 
         power-is = a .power-is;
         rows-are = a .rows-of;
         short = a .short;
-        fits = subst (λ (x : ℕ). b .rows * x ≤ lent) (a .windows-of) (omega (arith, a .need-is, l));
+        fits = subst (λ (x : ℕ). b .rows * x ≤ lent) (a .windows-of) (omega (arith, a .smooth-need, l));
         blocks = w .blocks;
         variances = w .variances;
       }
@@ -209,7 +209,7 @@ module _ {S : MsarSpec} {y : List Float} {b : Bound} {e : b ≡ boundOf S y} {q 
 module _ (S : MsarSpec) (y : List Float) (start : MsarParams) (max : ℕ) (tol : Float) (work smoothed : List Float) where
   -- what it checks of its own
   abbrev pub fitOwn : Check
-  fitOwn = memoryCheck (length work) (workNeed S y) before memoryCheck (length smoothed) (tableNeed S y)
+  fitOwn = memoryCheck (length work) (smoothNeed S y) before memoryCheck (length smoothed) (tableNeed S y)
 
   module _ {a : Fitted} where
     module _ {r : Refusal} (refused : a ≡ fittedAfter (Failed r) start zero⁺ 0 false) where
@@ -222,7 +222,7 @@ module _ (S : MsarSpec) (y : List Float) (start : MsarParams) (max : ℕ) (tol :
       unfolding fitCall
       fit-refused-later e d = rw (e, d, refused)
 
-    pub fit-ran : {need : ℕ} {w t : List Float} → a ≡ fittedOf y tol max start → need ≡ workNeed S y → w ≡ cleared need work
+    pub fit-ran : {need : ℕ} {w t : List Float} → a ≡ fittedOf y tol max start → need ≡ smoothNeed S y → w ≡ cleared need work
         → t ≡ fittedTable y tol max start smoothed → admittedCheck S y fitOwn start ≡ Passed → fitCheck start y ≡ Passed
         → record { answer = a; work = w; smoothed = t } ≡ fitCall S y start max tol work smoothed
     unfolding fitCall

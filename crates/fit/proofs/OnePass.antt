@@ -151,8 +151,8 @@ module _ (y : List Float) (tol : Float) (i : ℕ) (q : MsarParams) (last : Float
 -- ---- memory, after the filter and the smoother
 
 -- rows from the same shares
-pub held-at : {q : MsarParams} {y shares shares′ : List Float} {n m i : ℕ} {work : List Float} → shares ≡ shares′ → Held q y shares n m i work → Held q y shares′ n m i work
-held-at {q} {y} {n = n} {m} {i} {work} e h = subst (λ (x : List Float). Held q y x n m i work) e h
+pub held-at : {q : MsarParams} {y shares shares′ : List Float} {n m kept i : ℕ} {work : List Float} → shares ≡ shares′ → Held q y shares n m kept i work → Held q y shares′ n m kept i work
+held-at {q} {y} {n = n} {m} {kept} {i} {work} e h = subst (λ (x : List Float). Held q y x n m kept i work) e h
 
 pub ready-long : {q : MsarParams} {y : List Float} {floor : Float} {power n lent lent′ : ℕ} → lent′ ≡ lent → Ready q y floor power n lent
     → Ready q y floor power n lent′
@@ -166,7 +166,7 @@ rest-kept q m n work ran after e done d =
 -- ---- the step reads the smoothed rows in memory
 
 module _ (q : MsarParams) (y : List Float) (floor : Float) (power m n lent : ℕ) (ready : Ready q y floor power n lent) (windows : m ≡ windowsOf q)
-    (work after : List Float) (held : Held q y (startShares q .values) n m n work) (done : SmoothedRows q n work after) where
+    (work after : List Float) (held : Held q y (startShares q .values) n m (2 * n) n work) (done : SmoothedRows q n work after) where
   abbrev predicted : ℕ → List Float
   predicted = predictedRow q y (startShares q .values)
 
@@ -181,8 +181,8 @@ module _ (q : MsarParams) (y : List Float) (floor : Float) (power m n lent : ℕ
   smoothed-stand i h =
       subst (λ (x : ℕ). Same (windowsOf q) (drop (filteredFrom (windowsOf q) i) after) (smoothedFrom q y (startShares q .values) x i)) counted
       (done .rows predicted filtered
-      (λ j l. subst (λ (x : ℕ). Same x (drop (predictedFrom n x j) work) (predicted j)) windows (held .predicted j l))
-      (λ j l. subst (λ (x : ℕ). Same x (drop (filteredFrom x j) work) (filtered j)) windows (held .filtered j l)) i h)
+      (λ j l. subst (λ (x : ℕ). Same x (drop (predictedFrom n x j) work) (predicted j)) windows (held .predicted j l (omega arith)))
+      (λ j l. subst (λ (x : ℕ). Same x (drop (filteredFrom x j) work) (filtered j)) windows (held .filtered j l (omega arith))) i h)
 
   pub step-is : {new : Built} → new ≡ stepOf y n (λ i. drop (filteredFrom (windowsOf q) i) after) q → new ≡ stepOf y (rowCount q y) (smoothedRows q y) q
   step-is e =

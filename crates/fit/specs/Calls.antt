@@ -1,5 +1,5 @@
 -- The call `fit`: for every input the answer, and all lent memory at exit as a function of what was lent.
--- After document 01, "Refusals by number" (24 and 25 after 20) and "How much a contract says".
+-- After document 01, "Refusals by number" (24 and 25 after 20) and "How much a contract says", and of work memory document 02, Q-8.
 use Prim.Native.Nat.{ℕ}
 use mathlib.Core.Bool.{false, not}
 use mathlib.Core.List.{List}
@@ -13,7 +13,7 @@ use Rattle.refusal.specs.declared.Refusal.the-variants.{OrderZero, SampleVarian
 use Rattle.spec.specs.declared.MsarSpec.{MsarSpec}
 use Rattle.params.specs.declared.MsarParams.{MsarParams}
 use Rattle.params.specs.Parameters.{p}
-use Rattle.binding.specs.Binding.{admittedCheck, memoryCheck, workNeed, tableNeed}
+use Rattle.binding.specs.Binding.{admittedCheck, memoryCheck, smoothNeed, tableNeed}
 use Rattle.em_sample_variance.specs.Series.{sampleVariance}
 use Rattle.calls.specs.Calls.{cleared, smoothedTable}
 use Rattle.fit.specs.declared.Course.{Course}
@@ -48,13 +48,13 @@ unfoldable pub fitCall : MsarSpec → List Float → MsarParams → ℕ → Floa
 fitCall S y start maxIter tol work smoothed =
     fitCalled
     (admittedCheck S y
-    (memoryCheck (length work) (workNeed S y)
+    (memoryCheck (length work) (smoothNeed S y)
     before memoryCheck (length smoothed) (tableNeed S y))
     start
     before fitCheck start y)
     start work smoothed
     (record {
       answer = fittedOf y tol maxIter start;
-      work = cleared (workNeed S y) work;
+      work = cleared (smoothNeed S y) work;
       smoothed = fittedTable y tol maxIter start smoothed;
     })

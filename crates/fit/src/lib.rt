@@ -111,10 +111,10 @@ fn judge(
     requires { ⌜ (m ≡ windowsOf q) × (power ≡ k q ^ p q) × (p q + n ≡ length (now y)) × (length (now y) ≤ 4096) × (2 * (n * m) ≤ length (now work)) × (i < 18446744073709551615) ⌝ }
     ensures verdict { λ v. ⌜ v ≡ verdictOf (now (y .entry)) tol i q last ⌝ }
     ensures rest { λ _. ⌜ (length (now (work .exit)) ≡ length (now (work .entry))) × (drop (2 * (n * m)) (now (work .exit)) ≡ drop (2 * (n * m)) (now (work .entry))) ⌝ }
-    ensures rows { λ v. ⌜ (v .course ≡ Going → Held q (now (y .entry)) (startShares q .values) n m n (now (work .exit))) ⌝ }
+    ensures rows { λ v. ⌜ (v .course ≡ Going → Held q (now (y .entry)) (startShares q .values) n m (2 * n) n (now (work .exit))) ⌝ }
 {
     let start = stationary::solved_shares(&q.transition, q.means_count);
-    let answer = filter::run(q, start, power, m, y, n, work);
+    let answer = filter::run(q, start, power, m, y, n, 2 * n, work);
     let check = answer.check;
     if let Check::Failed(r) = check {
         return Verdict {
@@ -233,22 +233,23 @@ fn close(
     smoothed: &mut [f64],
 ) -> Answer
     requires { ⌜ Shape (k q) (p q) ⌝ }
-    requires { ⌜ (m ≡ windowsOf q) × (power ≡ k q ^ p q) × (p q + n ≡ length (now y)) × (length (now y) ≤ 4096) × (3 * (n * m) ≤ length (now work)) × (n * k q ≤ length (now smoothed)) × (0 < n) ⌝ }
+    requires { ⌜ (m ≡ windowsOf q) × (power ≡ k q ^ p q) × (p q + n ≡ length (now y)) × (length (now y) ≤ 4096) × (2 * (n * m) ≤ length (now work)) × (n * k q ≤ length (now smoothed)) × (0 < n) ⌝ }
     ensures answer { λ a. ⌜ a ≡ runAnswer q (now (y .entry)) ⌝ }
-    ensures work { λ _. ⌜ now (work .exit) ≡ cleared (3 * (n * m)) (now (work .entry)) ⌝ }
+    ensures work { λ _. ⌜ now (work .exit) ≡ cleared (2 * (n * m)) (now (work .entry)) ⌝ }
     ensures smoothed { λ _. ⌜ now (smoothed .exit) ≡ smoothedTable q (now (y .entry)) (now (smoothed .entry)) ⌝ }
 {
     let start = stationary::solved_shares(&q.transition, q.means_count);
-    let answer = filter::run(q, start, power, m, y, n, work);
+    let answer = filter::run(q, start, power, m, y, n, 2 * n, work);
+    let need = 2 * (n * m);
     let check = answer.check;
     match check {
         Check::Passed => {
             calls::smooth_rows(q, power, m, n, work, smoothed);
-            rows::clear(work, 3 * (n * m));
+            rows::clear(work, need);
             answer
         }
         Check::Failed(_) => {
-            rows::clear(work, 3 * (n * m));
+            rows::clear(work, need);
             answer
         }
     }
@@ -311,9 +312,9 @@ fn run_fit(
     smoothed: &mut [f64],
 ) -> Fitted
     requires { ⌜ Ready start (now y) floor power n (length (now work)) ⌝ }
-    requires { ⌜ (m ≡ windowsOf start) × (0 < n) × (parameterCheck start ≡ Passed) × (3 * (n * m) ≤ length (now work)) × (n * k start ≤ length (now smoothed)) ⌝ }
+    requires { ⌜ (m ≡ windowsOf start) × (0 < n) × (parameterCheck start ≡ Passed) × (2 * (n * m) ≤ length (now work)) × (n * k start ≤ length (now smoothed)) ⌝ }
     ensures answer { λ a. ⌜ a ≡ fittedOf (now (y .entry)) tol «max_iter» start ⌝ }
-    ensures work { λ _. ⌜ now (work .exit) ≡ cleared (3 * (n * m)) (now (work .entry)) ⌝ }
+    ensures work { λ _. ⌜ now (work .exit) ≡ cleared (2 * (n * m)) (now (work .entry)) ⌝ }
     ensures smoothed { λ _. ⌜ now (smoothed .exit) ≡ fittedTable (now (y .entry)) tol «max_iter» start (now (smoothed .entry)) ⌝ }
 {
     let s = passes(start, max_iter, tol, y, floor, power, m, n, work);
@@ -322,7 +323,7 @@ fn run_fit(
     let check = end.check;
     match check {
         Check::Failed(r) => {
-            rows::clear(work, 3 * (n * m));
+            rows::clear(work, 2 * (n * m));
             refused(r)
         }
         Check::Passed => {
@@ -359,7 +360,8 @@ pub fn fit(
 {
     let b = binding::bind(s, y);
     let bound = b.check;
-    let own = calls::memory(b, s.k_regimes, work.len(), smoothed.len());
+    let need = binding::smooth_need(b);
+    let own = calls::memory(b, s.k_regimes, need, work.len(), smoothed.len());
     let given = binding::parameters(s, start);
     let admitted = first_of(bound, first_of(own, given));
     if let Check::Failed(r) = admitted {

@@ -1,5 +1,6 @@
-// The commands, each a call and what it writes; `fit` and `start` stand in msar_fit. Work memory holds 3 * n * m numbers for n rows of m
-// windows: 4,096 readings with 32 windows, 512 with 256.
+// The commands, each a call and what it writes; `fit` and `start` stand in msar_fit. Work memory holds 393,216 numbers. For n rows of m
+// windows `smooth`, `verdict` and `fit` need 2 * n * m of them, so they take 4,096 readings with 48 windows, 768 rows with 256. `loglike`
+// and `filter` need n * m + 256, so n * m may be 392,960: 4,096 readings with 95 windows, 1,535 rows with 256.
 ghost use Prim.Native.Nat.{_≤_, _<_};
 
 pub mod refusals;
@@ -18,12 +19,12 @@ use text_words::least;
 
 const LONGEST: usize = 4096;
 
-// Rows times windows that work memory holds.
-const CELLS: usize = 131072;
+// Rows times windows that work memory has room for in every command: half of its numbers.
+const CELLS: usize = 196608;
 
 // ---- on a model
 
-// The longest series for so many windows.
+// The longest series that every command takes for so many windows.
 fn longest(order: usize, windows: usize) -> usize {
     if windows == 0 {
         return 0;

@@ -244,7 +244,7 @@ pub fn loglike(readings: usize, loglik: f64, digits: usize) {
     is_written(io::write_all(libc::STDOUT_FILENO, &out[..n]));
 }
 
-// The shape of a model, and the longest series that the program takes for it.
+// The shape of a model, and the longest series that every command takes for it.
 pub fn shape(k: usize, order: usize, windows: usize, longest: usize) {
     let mut out = put::blank();
     let n = put::bytes(&mut out, 0, b"regimes,order,windows,longest\n");

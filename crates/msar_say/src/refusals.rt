@@ -69,7 +69,7 @@ fn of_series(out: &mut Text, n: usize, number: usize, i: usize) -> usize
             n,
             b"so many readings and windows need more memory than the program has, ",
             i,
-            b" numbers: take fewer readings or a lower order (msar check says how many readings a model takes)",
+            b" numbers: take fewer readings or a lower order (msar check says how many readings every command takes)",
         ),
     }
 }

@@ -18,7 +18,7 @@ use Rattle.em_sample_variance.proofs.Examples as variances
 use Rattle.fit.specs.Calls.{fitCheck, fitCall}
 use Rattle.promises.specs.Twelve.{alike, orderOne, constantFit, fitRefused}
 
-admitted : admittedCheck orderOne (two ∷ two ∷ []) (memoryCheck 12 12 before memoryCheck 2 2) (alike 1) ≡ Passed
+admitted : admittedCheck orderOne (two ∷ two ∷ []) (memoryCheck 8 8 before memoryCheck 2 2) (alike 1) ≡ Passed
 unfolding admittedCheck boundCheck specCheck lengthCheck readingsCheck readingCheck paramsCheck matchesSpec parameterCheck meanCheck entryCheck columnCheck arCheck varianceCheck columnSum sumUp isProbability usable each magnitudeOf lt le eq ofBits mul div add sub neg sum round size units odd span climb ofFields trailingZeros
 admitted = refl
 

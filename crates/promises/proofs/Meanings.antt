@@ -18,7 +18,7 @@ use Rattle.params.specs.Checks.{parameterCheck}
 use Rattle.params.specs.Built.{builtAfter, builtOf}
 use Rattle.params.proofs.Again.{again}
 use Rattle.linsolve.proofs.Stopped.{solve-named, solve-names}
-use Rattle.binding.specs.Binding.{admittedCheck, memoryCheck, workNeed, tableNeed}
+use Rattle.binding.specs.Binding.{admittedCheck, memoryCheck, smoothNeed, tableNeed}
 use Rattle.calls.specs.Calls.{runCheck}
 use Rattle.fit.specs.declared.Course.{Course}
 use Rattle.fit.specs.declared.Course.the-variants.{Going, Converged, Refused}
@@ -57,7 +57,7 @@ passes : (S : MsarSpec) (y : List Float) (start : MsarParams) (maxIter : ℕ) (t
     → fitCall S y start maxIter tol work smoothed .answer .iterations ≤ maxIter
 unfolding fitCall fittedOf
 passes S y start maxIter tol work smoothed =
-    let own = memoryCheck (length work) (workNeed S y) before memoryCheck (length smoothed) (tableNeed S y) in
+    let own = memoryCheck (length work) (smoothNeed S y) before memoryCheck (length smoothed) (tableNeed S y) in
     let admitted = admittedCheck S y own start in
     called-within maxIter (admitted before fitCheck start y) start work smoothed _ (λ e.
     ended-within maxIter y start (passesTo y tol start maxIter .params) (passesTo y tol start maxIter .course) (passes-kept start y tol (parameters S y start own (both admitted e .0)) maxIter))

@@ -48,7 +48,7 @@ series = one ∷ []
 abbrev start : List Float
 start = quarter ∷ three-quarters ∷ replicate 14 zero⁺
 
-admitted : admittedCheck spec series (memoryCheck 6 6 before memoryCheck 2 2) params ≡ Passed
+admitted : admittedCheck spec series (memoryCheck 258 258 before memoryCheck 2 2) params ≡ Passed
 unfolding admittedCheck boundCheck specCheck lengthCheck readingsCheck readingCheck paramsCheck matchesSpec parameterCheck meanCheck entryCheck columnCheck arCheck varianceCheck columnSum sumUp isProbability usable each magnitudeOf lt le eq ofBits mul div add sub neg sum round size units odd span climb ofFields trailingZeros
 admitted = refl
 
@@ -76,6 +76,6 @@ shares-are s h = subst (λ (x : Shares). NotBelow (x .values ! s)) (sym from) (g
     go (suc zero) h = unfold lt ofBits in refl
     go (suc (suc s)) h = absurd (not-suc-le-zero (le-of-suc-le-suc (le-of-suc-le-suc h)))
 
-pub asked : Asked params (filterCall spec series params (replicate 6 zero⁺) (replicate 2 zero⁺))
+pub asked : Asked params (filterCall spec series params (replicate 258 zero⁺) (replicate 2 zero⁺))
 unfolding filterCall runAnswer
 asked = record { answers = rw (admitted, ran); shares = shares-are }

@@ -20,6 +20,7 @@ use Rattle.refusal.proofs.Refusal.said as refusal·said
 use Rattle.params.proofs.tidy.passed as params·passed
 use Rattle.params.proofs.tidy.refused as params·refused
 use Rattle.stationary.proofs.solved_shares as stationary·solved_shares
+use Rattle.rows.proofs.store as rows·store
 use Rattle.rows.proofs.clear as rows·clear
 use Rattle.rows.proofs.tabulate as rows·tabulate
 use Rattle.density.proofs.block_of as density·block_of
@@ -32,6 +33,8 @@ use Rattle.density.proofs.weigh as density·weigh
 use Rattle.prediction.proofs.first_row as prediction·first_row
 use Rattle.prediction.proofs.steps as prediction·steps
 use Rattle.prediction.proofs.later_row as prediction·later_row
+use Rattle.binding.proofs.filter_need as binding·filter_need
+use Rattle.binding.proofs.smooth_need as binding·smooth_need
 use Rattle.calls.proofs.memory as calls·memory
 use Rattle.filter.proofs.refused as filter·refused
 use Rattle.filter.proofs.divide as filter·divide
@@ -73,7 +76,8 @@ pub record BetweenCrates (M : Type 1) : Type 2 where
   pub passed : One M params·passed.ended params·passed.clauses
   pub refused-params : One M params·refused.ended params·refused.clauses
   pub solved-shares : One M stationary·solved_shares.ended stationary·solved_shares.clauses
-  -- rows in memory, densities, predictions, the filter's parts
+  -- rows in memory, densities, predictions, the filter's parts, the lengths needed
+  pub store : One M rows·store.ended rows·store.clauses
   pub clear : One M rows·clear.ended rows·clear.clauses
   pub tabulate : One M rows·tabulate.ended rows·tabulate.clauses
   pub block-of : One M density·block_of.ended density·block_of.clauses
@@ -86,6 +90,8 @@ pub record BetweenCrates (M : Type 1) : Type 2 where
   pub first-row : One M prediction·first_row.ended prediction·first_row.clauses
   pub steps : One M prediction·steps.ended prediction·steps.clauses
   pub later-row : One M prediction·later_row.ended prediction·later_row.clauses
+  pub filter-need : One M binding·filter_need.ended binding·filter_need.clauses
+  pub smooth-need : One M binding·smooth_need.ended binding·smooth_need.clauses
   pub call-memory : One M calls·memory.ended calls·memory.clauses
   pub refused-answer : One M filter·refused.ended filter·refused.clauses
   pub divide : One M filter·divide.ended filter·divide.clauses

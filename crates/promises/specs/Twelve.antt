@@ -83,20 +83,20 @@ thirds = rowOf 3 0 (λ w. one ⊘ sumUp (λ a. one) 3)
 abbrev pub third : ℕ → Float
 third = probability 3 0 thirds
 
--- ---- P9: the fit at order 1 of the series 2, 2. It is lent what one row of four windows needs, 12 places of work memory and 2 of the table
+-- ---- P9: the fit at order 1 of the series 2, 2. It is lent what one row of four windows needs, 8 places of work memory and 2 of the table
 
 abbrev pub orderOne : MsarSpec
 orderOne = record { «k_regimes» = 2; order = 1; «switching_ar» = false; «switching_variance» = false }
 
 abbrev pub constantFit : ℕ → Float → FitOutcome
-constantFit maxIter tol = fitCall orderOne (two ∷ two ∷ []) (alike 1) maxIter tol (replicate 12 zero⁺) (replicate 2 zero⁺)
+constantFit maxIter tol = fitCall orderOne (two ∷ two ∷ []) (alike 1) maxIter tol (replicate 8 zero⁺) (replicate 2 zero⁺)
 
 -- refused with the variance +0, beside zeros; memory as lent
 abbrev pub fitRefused : FitOutcome
 fitRefused =
     record {
       answer = record { check = Failed (SampleVariance zero⁺); params = nothing; loglik = zero⁺; iterations = 0; converged = false };
-      work = replicate 12 zero⁺;
+      work = replicate 8 zero⁺;
       smoothed = replicate 2 zero⁺;
     }
 

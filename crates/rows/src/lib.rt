@@ -1,10 +1,21 @@
-// Rows of window weights in lent memory: clearing them, and the probabilities of the labels.
+// Rows of window weights in lent memory: storing and clearing them, and the probabilities of the labels.
 ghost use mathlib.Core.Path.{_≡_};
 ghost use Prim.Native.Nat.{_+_, _*_, _<_, _≤_};
 ghost use lib.ListN.{length, drop};
 ghost use Rattle.number.specs.Number.{zero⁺};
 ghost use Rattle.number.specs.Table.{fillAt};
-ghost use Rattle.rows.specs.Steps.{labelSum, labelSumAt};
+ghost use Rattle.rows.specs.Steps.{labelSum, labelSumAt, stored};
+
+// A row, as row j of the `kept` rows of m places that have room; behind them it is not kept.
+pub fn store(row: &[f64; 256], m: usize, j: usize, kept: usize, work: &mut [f64])
+    requires { ⌜ (m ≤ 256) × (kept * m ≤ length (now work)) ⌝ }
+    ensures { λ _. ⌜ now (work .exit) ≡ stored m kept j (now (row .entry)) (now (work .entry)) ⌝ }
+{
+    if kept <= j {
+        return;
+    }
+    number::copy(row, m, work, j * m);
+}
 
 // +0 in the first n places.
 pub fn clear(work: &mut [f64], n: usize)

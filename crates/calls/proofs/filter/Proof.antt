@@ -9,18 +9,24 @@ use Rattle.refusal.specs.declared.Check.the-variants.{Passed}
 use Rattle.refusal.proofs.Checks.{both}
 use Rattle.binding.specs.Binding.{admittedCheck}
 use Rattle.binding.proofs.Passed.{small, admits}
-use Rattle.calls.proofs.Admitted.{one-checked, Admitted, is-admitted, long-enough}
+use Rattle.calls.proofs.Admitted.{filter-need-is, one-checked, Admitted, is-admitted, long-enough}
 use Rattle.calls.proofs.Outcomes.{loglikeOwn, filterOwn, filter-refused, filter-ran}
 use Rattle.calls.proofs.filter.Statement.{statement}
 use Rattle.calls.proofs.filter.Tie as tie
 
+filter-need-requires : tie.Need-filter-need-requires
+filter-need-requires c κs = small _ _ (c .bind .ensures) .work
+
 memory-requires : tie.Need-memory-requires
-memory-requires c κs = let s = small _ _ (c .bind .ensures) in (s .work, s .table)
+memory-requires c κs = small _ _ (c .before .bind .ensures) .table
 
 -- after the checks
 module _ (c : tie.After-first-of2) where
+  abbrev needed : tie.After-filter-need
+  needed = c .before .before .before .before
+
   abbrev bound : tie.After-bind
-  bound = c .before .before .before .before
+  bound = needed .before
 
   abbrev start : tie.Start
   start = bound .before .before .before .before
@@ -31,7 +37,7 @@ module _ (c : tie.After-first-of2) where
   checked : c .first-of2 .result ≡ admittedCheck (start .args .s) (start .args .y .now) own (start .args .q)
   checked =
       admits (start .args .s) (start .args .y .now) (bound .bind .ensures) (start .args .q) own
-      (one-checked (start .args .s) (start .args .y .now) (bound .bind .ensures) _ _ (c .before .before .before .memory .ensures)) (c .before .before .parameters .ensures)
+      (one-checked (start .args .s) (start .args .y .now) (bound .bind .ensures) (filter-need-is (start .args .s) (start .args .y .now) (bound .bind .ensures) (needed .filter-need .ensures)) _ _ (c .before .before .before .memory .ensures)) (c .before .before .parameters .ensures)
       (rw (← c .before .first-of .ensures) (c .first-of2 .ensures))
 
   admitted : c .first-of2 .result ≡ Passed → Admitted (start .args .s) (start .args .y .now) (bound .bind .ensures) (start .args .q) own
@@ -48,7 +54,7 @@ run-filter-requires c κs =
         a .power-is,
         a .rows-of,
         a .short,
-        subst (λ n. n ≤ length (s .work .now)) (sym (a .need-is)) (long-enough _ _ (own .0)),
+        subst (λ n. n ≤ length (s .work .now)) (sym (a .filter-need)) (long-enough _ _ (own .0)),
         subst (λ n. n ≤ length (s .filtered .now)) (sym (a .table-need)) (long-enough _ _ (own .1)),
       ),
     )
@@ -64,13 +70,14 @@ returns-2 c =
     let s = start (done .before .before .before .before .before) .args in
     let d = done .before .before .before .enum-told .given .1 in
     let ran = done .run-filter .ensures in
-    filter-ran (s .s) (s .y .now) (s .q) (s .work .now) (ran .0) (admitted (done .before .before .before .before .before) d .need-is) (ran .1 .0) (s .filtered .now) (ran .1 .1) (sym (checked (done .before .before .before .before .before)) ∙ d)
+    filter-ran (s .s) (s .y .now) (s .q) (s .work .now) (ran .0) (ran .1 .0) (admitted (done .before .before .before .before .before) d .filter-need) (s .filtered .now) (ran .1 .1) (sym (checked (done .before .before .before .before .before)) ∙ d)
 
 pub filter-spec : {M : Type 1} → statement M
 filter-spec =
     tie.close
     (tie.spec
     (λ c κs. search needs)
+    filter-need-requires
     memory-requires
     (λ c κs. search needs)
     (λ c κs. search needs)

@@ -1,7 +1,6 @@
 -- `loglike` meets its contract: refused with nothing touched, or what its run leaves.
 use Prim.Native.Nat.{_≤_}
 use mathlib.Core.Path.{_≡_, sym, subst, _∙_}
-use native.Mathlib.Omega.{arith}
 use borrow.Author.Needs.{needs}
 use lib.ListN.{length}
 use Rattle.number.specs.Number.{zero⁺}
@@ -9,21 +8,21 @@ use Rattle.refusal.specs.declared.Check.{Check}
 use Rattle.refusal.specs.declared.Check.the-variants.{Passed}
 use Rattle.binding.specs.Binding.{admittedCheck}
 use Rattle.binding.proofs.Passed.{small, admits}
-use Rattle.calls.proofs.Admitted.{work-checked, Admitted, is-admitted, long-enough}
+use Rattle.calls.proofs.Admitted.{filter-need-is, work-checked, Admitted, is-admitted, long-enough}
 use Rattle.calls.proofs.Outcomes.{loglikeOwn, loglike-refused, loglike-ran}
 use Rattle.calls.proofs.loglike.Statement.{statement}
 use Rattle.calls.proofs.loglike.Tie as tie
 
-mul-memory : tie.Need-mul-memory
-mul-memory c = omega (arith, small _ _ (c .before .bind .ensures) .work)
-
-mul-memory-2 : tie.Need-mul-memory-2
-mul-memory-2 c = omega (arith, small _ _ (c .before .bind .ensures) .work)
+filter-need-requires : tie.Need-filter-need-requires
+filter-need-requires c κs = small _ _ (c .bind .ensures) .work
 
 -- after the checks
 module _ (c : tie.After-first-of2) where
+  abbrev needed : tie.After-filter-need
+  needed = c .before .before .before .before
+
   abbrev bound : tie.After-bind
-  bound = c .before .before .before .before .before
+  bound = needed .before
 
   abbrev start : tie.Start
   start = bound .before .before .before
@@ -34,7 +33,7 @@ module _ (c : tie.After-first-of2) where
   checked : c .first-of2 .result ≡ admittedCheck (start .args .s) (start .args .y .now) own (start .args .q)
   checked =
       admits (start .args .s) (start .args .y .now) (bound .bind .ensures) (start .args .q) own
-      (work-checked (start .args .s) (start .args .y .now) (bound .bind .ensures) _ (c .before .before .before .memory .ensures)) (c .before .before .parameters .ensures)
+      (work-checked (start .args .s) (start .args .y .now) (bound .bind .ensures) (filter-need-is (start .args .s) (start .args .y .now) (bound .bind .ensures) (needed .filter-need .ensures)) _ (c .before .before .before .memory .ensures)) (c .before .before .parameters .ensures)
       (rw (← c .before .first-of .ensures) (c .first-of2 .ensures))
 
   admitted : c .first-of2 .result ≡ Passed → Admitted (start .args .s) (start .args .y .now) (bound .bind .ensures) (start .args .q) own
@@ -43,7 +42,7 @@ module _ (c : tie.After-first-of2) where
 run-loglike-requires : tie.Need-run-loglike-requires
 run-loglike-requires c κs =
     let a = admitted (c .before .before .before) (c .before .enum-told .given .1) in
-    (a .shape, (a .windows-of, a .power-is, a .rows-of, a .short, subst (λ n. n ≤ length (start (c .before .before .before) .args .work .now)) (sym (a .need-is)) (long-enough _ _ (a .own-passed))))
+    (a .shape, (a .windows-of, a .power-is, a .rows-of, a .short, subst (λ n. n ≤ length (start (c .before .before .before) .args .work .now)) (sym (a .filter-need)) (long-enough _ _ (a .own-passed))))
 
 returns : tie.Need-returns
 returns c =
@@ -55,15 +54,14 @@ returns-2 c =
     let s = start (c .before .before .before .before .before .before) .args in
     let d = c .before .before .before .before .enum-told .given .1 in
     let ran = c .before .before .run-loglike .ensures in
-    loglike-ran (s .s) (s .y .now) (s .q) (s .work .now) (ran .0) (admitted (c .before .before .before .before .before .before) d .need-is) (ran .1) (sym (checked (c .before .before .before .before .before .before)) ∙ d)
+    loglike-ran (s .s) (s .y .now) (s .q) (s .work .now) (ran .0) (ran .1) (admitted (c .before .before .before .before .before .before) d .filter-need) (sym (checked (c .before .before .before .before .before .before)) ∙ d)
 
 pub loglike-spec : {M : Type 1} → statement M
 loglike-spec =
     tie.close
     (tie.spec
     (λ c κs. search needs)
-    mul-memory
-    mul-memory-2
+    filter-need-requires
     (λ c κs. search needs)
     (λ c κs. search needs)
     (λ c κs. search needs)

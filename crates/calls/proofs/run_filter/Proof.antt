@@ -1,8 +1,8 @@
 -- `run_filter` meets its contract: the run's answer, its table where it was not refused, and memory cleared.
-use mathlib.Core.Path.{refl}
+use Prim.Native.Nat.{_+_, _*_}
 use native.Mathlib.Omega.{arith}
 use borrow.Author.Needs.{needs}
-use Rattle.calls.proofs.Runs.{run-answer, values-are, run-cleared, work-small, windows-split, run-says, filtered-as-found, filtered-is}
+use Rattle.calls.proofs.Runs.{run-answer, values-are, all-cleared, windows-split, run-says, filtered-as-found, filtered-is}
 use Rattle.calls.proofs.run_filter.Statement.{statement}
 use Rattle.calls.proofs.run_filter.Tie as tie
 
@@ -19,26 +19,11 @@ refused-run c = c .before .before .before .before .before .before
 solved-shares-requires : tie.Need-solved-shares-requires
 solved-shares-requires c κs = let h = c .before .before .before .before .before .pre in (h .0 .high, omega (arith, h .0 .low))
 
-run-requires : tie.Need-run-requires
-run-requires c κs = let h = c .before .before .before .before .before .before .before .pre in (h .0, (h .1 .0, h .1 .1, h .1 .2, h .1 .3, omega (arith, h .1 .4)))
-
 tabulate-requires : tie.Need-tabulate-requires
 tabulate-requires c κs =
     let run = c .before .before .before .before .before .before in
     let h = start-of run .pre in
     (omega (arith, h .0 .low), windows-split _ _ (h .1 .0) (h .1 .1), omega (arith, h .1 .4, run .run .ensures .1 .0 .0), h .1 .5)
-
-mul-clear : tie.Need-mul-clear
-mul-clear c = let s = start-of (run-of (c .before .before .before)) in omega (arith, work-small (s .args .t1) _ _ _ (s .pre .0 .few) (s .pre .1 .0) (s .pre .1 .2) (s .pre .1 .3))
-
-mul-clear-2 : tie.Need-mul-clear-2
-mul-clear-2 c = let s = start-of (run-of (c .before .before .before)) in omega (arith, work-small (s .args .t1) _ _ _ (s .pre .0 .few) (s .pre .1 .0) (s .pre .1 .2) (s .pre .1 .3))
-
-clear-requires : tie.Need-clear-requires
-clear-requires c κs = let run = run-of (c .before .before .before) in omega (arith, start-of run .pre .1 .4, run .run .ensures .1 .0 .0)
-
-clear-requires-2 : tie.Need-clear-requires-2
-clear-requires-2 c κs = omega (arith, start-of (c .before .before .before .before .before) .pre .1 .4, c .before .before .before .before .before .run .ensures .1 .0 .0)
 
 returns : tie.Need-returns
 returns c =
@@ -51,8 +36,8 @@ returns c =
     let d = tabled .before .before .before .enum-told .given .1 in (
       answer,
       (
-        run-cleared _ _ _ _ (ran .1 .0 .1) (c .before .before .clear .ensures),
-        filtered-is (s .args .t1) _ _ _ (omega (arith, s .pre .0 .low)) (s .pre .1 .0) (s .pre .1 .1) _ _ _ (ran .1 .1 d) (s .pre .1 .2) (run-says (s .args .t1) _ answer d) (values-are (s .args .t1) (s .args .y .now) shares) _ (tabled .tabulate .ensures),
+        all-cleared (s .args .n * s .args .m) (s .args .n * s .args .m + 256) _ _ (ran .1 .0 .1) (c .before .before .clear .ensures) (omega arith),
+        filtered-is (s .args .t1) _ _ _ (omega (arith, s .pre .0 .low)) (s .pre .1 .0) (s .pre .1 .1) _ _ _ (ran .1 .1 d) (s .pre .1 .2) (run-says (s .args .t1) _ answer d) (values-are (s .args .t1) (s .args .y .now) shares) (omega arith) _ (tabled .tabulate .ensures),
       ),
     )
 
@@ -62,23 +47,21 @@ returns-2 c =
     let s = start-of run in
     let ran = run .run .ensures in
     let answer = run-answer (s .args .t1) _ (run .before .before .solved-shares .ensures) (ran .0) in
-    (answer, (run-cleared _ _ _ _ (ran .1 .0 .1) (c .before .before .clear2 .ensures), filtered-as-found (s .args .t1) _ (run-says (s .args .t1) _ answer (c .before .before .before .before .enum-told2 .given .1)) _))
+    (answer, (all-cleared (s .args .n * s .args .m) (s .args .n * s .args .m + 256) _ _ (ran .1 .0 .1) (c .before .before .clear2 .ensures) (omega arith), filtered-as-found (s .args .t1) _ (run-says (s .args .t1) _ answer (c .before .before .before .before .enum-told2 .given .1)) _))
 
 pub run-filter-spec : {M : Type 1} → statement M
 run-filter-spec =
     tie.close
     (tie.spec
     solved-shares-requires
-    run-requires
+    (λ c κs. search needs)
+    (λ c. search needs)
+    (λ c. search needs)
     (λ c. search needs)
     tabulate-requires
-    mul-clear
-    mul-clear-2
-    clear-requires
+    (λ c κs. search needs)
     (λ c. search needs)
-    (λ c. search needs)
-    (λ c. search needs)
-    clear-requires-2
+    (λ c κs. search needs)
     (λ c. search needs)
     (λ c. search needs)
     returns

@@ -1,10 +1,10 @@
 -- `run_smooth` meets its contract: the run's answer, both tables where it was not refused, and memory cleared.
 use Prim.Native.Nat.{_*_, _<_}
-use mathlib.Core.Path.{refl, _∙_}
+use mathlib.Core.Path.{_∙_}
 use native.Mathlib.Omega.{arith}
 use borrow.Author.Needs.{needs}
 use Rattle.params.specs.Parameters.{k}
-use Rattle.calls.proofs.Runs.{run-answer, values-are, drop-more, run-cleared, work-small, windows-split, run-says, filtered-as-found, smoothed-as-found, filtered-is, smoothed-is}
+use Rattle.calls.proofs.Runs.{run-answer, values-are, drop-more, all-cleared, windows-split, run-says, filtered-as-found, smoothed-as-found, filtered-is, smoothed-is}
 use Rattle.calls.proofs.run_smooth.Statement.{statement}
 use Rattle.calls.proofs.run_smooth.Tie as tie
 
@@ -21,34 +21,24 @@ tabled-of c = c .before .before .before .before .before
 solved-shares-requires : tie.Need-solved-shares-requires
 solved-shares-requires c κs = let h = c .before .before .before .before .before .before .pre in (h .0 .high, omega (arith, h .0 .low))
 
-run-requires : tie.Need-run-requires
-run-requires c κs = let h = c .before .before .before .before .before .before .before .before .pre in (h .0, (h .1 .0, h .1 .1, h .1 .2, h .1 .3, omega (arith, h .1 .4)))
-
+-- both tables are long enough: so that only the values tell which is written first
 tabulate-requires : tie.Need-tabulate-requires
 tabulate-requires c κs =
     let run = c .before .before .before .before .before .before in
     let h = start-of run .pre in
-    (omega (arith, h .0 .low), windows-split _ _ (h .1 .0) (h .1 .1), omega (arith, h .1 .4, run .run .ensures .1 .0 .0), h .1 .5)
+    (omega (arith, h .0 .low), windows-split _ _ (h .1 .0) (h .1 .1), omega (arith, h .1 .4, run .run .ensures .1 .0 .0), omega (arith, h .1 .5, h .1 .6))
 
 smooth-rows-requires : tie.Need-smooth-rows-requires
 smooth-rows-requires c κs =
     let run = run-of (c .before .before .before .before) in
     let h = start-of run .pre in
-    (h .0, (h .1 .0, h .1 .1, h .1 .7, omega (arith, h .1 .4, run .run .ensures .1 .0 .0), h .1 .6))
-
-mul-clear : tie.Need-mul-clear
-mul-clear c = let s = start-of (run-of (tabled-of (c .before .before .before .before .before))) in omega (arith, work-small (s .args .t1) _ _ _ (s .pre .0 .few) (s .pre .1 .0) (s .pre .1 .2) (s .pre .1 .3))
-
-mul-clear-2 : tie.Need-mul-clear-2
-mul-clear-2 c = let s = start-of (run-of (tabled-of (c .before .before .before .before .before))) in omega (arith, work-small (s .args .t1) _ _ _ (s .pre .0 .few) (s .pre .1 .0) (s .pre .1 .2) (s .pre .1 .3))
+    (h .0, (h .1 .0, h .1 .1, h .1 .7, omega (arith, h .1 .4, run .run .ensures .1 .0 .0), omega (arith, h .1 .5, h .1 .6)))
 
 clear-requires : tie.Need-clear-requires
 clear-requires c κs =
-    let run = run-of (tabled-of (c .before .before .before .before .before)) in
-    omega (arith, start-of run .pre .1 .4, run .run .ensures .1 .0 .0, c .before .before .before .before .before .smooth-rows .ensures .0 .0)
-
-clear-requires-2 : tie.Need-clear-requires-2
-clear-requires-2 c κs = omega (arith, start-of (c .before .before .before .before .before) .pre .1 .4, c .before .before .before .before .before .run .ensures .1 .0 .0)
+    let smoothed = c .before .before .before .before .before in
+    let run = run-of (tabled-of smoothed) in
+    omega (arith, start-of run .pre .1 .4, run .run .ensures .1 .0 .0, smoothed .smooth-rows .ensures .0 .0)
 
 returns : tie.Need-returns
 returns c =
@@ -66,9 +56,9 @@ returns c =
     let passed = run-says (a .t1) _ answer d in (
       answer,
       (
-        run-cleared _ _ _ _ (drop-more (a .n * a .m) (2 * (a .n * a .m)) _ _ (omega arith) (done .smooth-rows .ensures .0 .1) ∙ ran .1 .0 .1) (c .before .before .clear .ensures),
+        all-cleared (2 * a .n * a .m) (2 * (a .n * a .m)) _ _ (drop-more (a .n * a .m) (2 * a .n * a .m) _ _ (omega arith) (done .smooth-rows .ensures .0 .1) ∙ ran .1 .0 .1) (c .before .before .clear .ensures) (omega arith),
         (
-          filtered-is (a .t1) _ _ _ pos (s .pre .1 .0) (s .pre .1 .1) _ _ _ (ran .1 .1 d) (s .pre .1 .2) passed values _ (tabled .tabulate .ensures),
+          filtered-is (a .t1) _ _ _ pos (s .pre .1 .0) (s .pre .1 .1) _ _ _ (ran .1 .1 d) (s .pre .1 .2) passed values (omega arith) _ (tabled .tabulate .ensures),
           smoothed-is (a .t1) _ _ _ pos (s .pre .1 .0) (s .pre .1 .1) _ _ _ (ran .1 .1 d) (s .pre .1 .2) passed values _ (done .smooth-rows .ensures .1 _ _ (ran .1 .1 d)),
         ),
       ),
@@ -81,24 +71,23 @@ returns-2 c =
     let ran = run .run .ensures in
     let answer = run-answer (s .args .t1) _ (run .before .before .solved-shares .ensures) (ran .0) in
     let refused = run-says (s .args .t1) _ answer (c .before .before .before .before .enum-told2 .given .1) in
-    (answer, (run-cleared _ _ _ _ (ran .1 .0 .1) (c .before .before .clear2 .ensures), (filtered-as-found (s .args .t1) _ refused _, smoothed-as-found (s .args .t1) _ refused _)))
+    (answer, (all-cleared (2 * s .args .n * s .args .m) (2 * (s .args .n * s .args .m)) _ _ (ran .1 .0 .1) (c .before .before .clear2 .ensures) (omega arith), (filtered-as-found (s .args .t1) _ refused _, smoothed-as-found (s .args .t1) _ refused _)))
 
 pub run-smooth-spec : {M : Type 1} → statement M
 run-smooth-spec =
     tie.close
     (tie.spec
     solved-shares-requires
-    run-requires
+    (λ c. search needs)
+    (λ c κs. search needs)
+    (λ c. search needs)
+    (λ c. search needs)
     (λ c. search needs)
     tabulate-requires
     smooth-rows-requires
-    mul-clear
-    mul-clear-2
     clear-requires
     (λ c. search needs)
-    (λ c. search needs)
-    (λ c. search needs)
-    clear-requires-2
+    (λ c κs. search needs)
     (λ c. search needs)
     (λ c. search needs)
     (λ c. search needs)

@@ -8,23 +8,29 @@ use Rattle.number.specs.Number.{zero⁺}
 use Rattle.refusal.specs.declared.Check.{Check}
 use Rattle.refusal.specs.declared.Check.the-variants.{Passed}
 use Rattle.refusal.proofs.Checks.{both}
-use Rattle.binding.specs.Binding.{admittedCheck, memoryCheck, tableNeed}
+use Rattle.binding.specs.Binding.{admittedCheck, memoryCheck, smoothNeed, tableNeed}
 use Rattle.binding.proofs.Passed.{small, admits}
-use Rattle.calls.proofs.Admitted.{two-checked, Admitted, is-admitted, long-enough}
-use Rattle.calls.proofs.Outcomes.{loglikeOwn, smoothOwn, smooth-refused, smooth-ran}
+use Rattle.calls.proofs.Admitted.{smooth-need-is, two-checked, Admitted, is-admitted, long-enough}
+use Rattle.calls.proofs.Outcomes.{smoothOwn, smooth-refused, smooth-ran}
 use Rattle.calls.proofs.smooth.Statement.{statement}
 use Rattle.calls.proofs.smooth.Tie as tie
 
+smooth-need-requires : tie.Need-smooth-need-requires
+smooth-need-requires c κs = small _ _ (c .bind .ensures) .work
+
 memory-requires : tie.Need-memory-requires
-memory-requires c κs = let s = small _ _ (c .bind .ensures) in (s .work, s .table)
+memory-requires c κs = small _ _ (c .before .bind .ensures) .table
 
 mul-memory : tie.Need-mul-memory
-mul-memory c = omega (arith, small _ _ (c .before .before .before .bind .ensures) .table)
+mul-memory c = omega (arith, small _ _ (c .before .before .before .before .bind .ensures) .table)
 
 -- after the checks
 module _ (c : tie.After-first-of3) where
+  abbrev needed : tie.After-smooth-need
+  needed = c .before .before .before .before .before .before .before .before
+
   abbrev bound : tie.After-bind
-  bound = c .before .before .before .before .before .before .before .before
+  bound = needed .before
 
   abbrev start : tie.Start
   start = bound .before .before .before .before .before
@@ -35,7 +41,7 @@ module _ (c : tie.After-first-of3) where
   checked : c .first-of3 .result ≡ admittedCheck (start .args .s) (start .args .y .now) own (start .args .q)
   checked =
       admits (start .args .s) (start .args .y .now) (bound .bind .ensures) (start .args .q) own
-      (two-checked (start .args .s) (start .args .y .now) (bound .bind .ensures) _ _ _ (c .before .before .before .before .before .before .before .memory .ensures) (c .before .before .before .before .memory2 .ensures) (c .before .before .first-of .ensures)) (c .before .before .before .parameters .ensures)
+      (two-checked (start .args .s) (start .args .y .now) (bound .bind .ensures) (smooth-need-is (start .args .s) (start .args .y .now) (bound .bind .ensures) (needed .smooth-need .ensures)) _ _ _ (c .before .before .before .before .before .before .before .memory .ensures) (c .before .before .before .before .memory2 .ensures) (c .before .before .first-of .ensures)) (c .before .before .before .parameters .ensures)
       (rw (← c .before .first-of2 .ensures) (c .first-of3 .ensures))
 
   admitted : c .first-of3 .result ≡ Passed → Admitted (start .args .s) (start .args .y .now) (bound .bind .ensures) (start .args .q) own
@@ -45,7 +51,7 @@ run-smooth-requires : tie.Need-run-smooth-requires
 run-smooth-requires c κs =
     let s = start (c .before .before .before .before .before) .args in
     let a = admitted (c .before .before .before .before .before) (c .before .before .before .enum-told .given .1) in
-    let own = both (loglikeOwn (s .s) (s .y .now) (s .q) (s .work .now)) (a .own-passed) in
+    let own = both (memoryCheck (length (s .work .now)) (smoothNeed (s .s) (s .y .now))) (a .own-passed) in
     let tables = both (memoryCheck (length (s .filtered .now)) (tableNeed (s .s) (s .y .now))) (own .1) in (
       a .shape,
       (
@@ -53,7 +59,7 @@ run-smooth-requires c κs =
         a .power-is,
         a .rows-of,
         a .short,
-        subst (λ n. n ≤ length (s .work .now)) (sym (a .need-is)) (long-enough _ _ (own .0)),
+        subst (λ n. n ≤ length (s .work .now)) (sym (a .smooth-need)) (long-enough _ _ (own .0)),
         subst (λ n. n ≤ length (s .filtered .now)) (sym (a .table-need)) (long-enough _ _ (tables .0)),
         subst (λ n. n ≤ length (s .smoothed .now)) (sym (a .table-need)) (long-enough _ _ (tables .1)),
         a .some,
@@ -71,13 +77,14 @@ returns-2 c =
     let s = start (done .before .before .before .before .before .before) .args in
     let d = done .before .before .before .before .enum-told .given .1 in
     let ran = done .run-smooth .ensures in
-    smooth-ran (s .s) (s .y .now) (s .q) (s .work .now) (ran .0) (admitted (done .before .before .before .before .before .before) d .need-is) (ran .1 .0) (s .filtered .now) (s .smoothed .now) (ran .1 .1 .0) (ran .1 .1 .1) (sym (checked (done .before .before .before .before .before .before)) ∙ d)
+    smooth-ran (s .s) (s .y .now) (s .q) (s .work .now) (ran .0) (ran .1 .0) (admitted (done .before .before .before .before .before .before) d .smooth-need) (s .filtered .now) (s .smoothed .now) (ran .1 .1 .0) (ran .1 .1 .1) (sym (checked (done .before .before .before .before .before .before)) ∙ d)
 
 pub smooth-spec : {M : Type 1} → statement M
 smooth-spec =
     tie.close
     (tie.spec
     (λ c κs. search needs)
+    smooth-need-requires
     memory-requires
     mul-memory
     (λ c κs. search needs)

@@ -13,7 +13,7 @@ returns : tie.Need-returns
 returns c =
     ap (λ (x : FitOutcome). x .answer .check)
     (c .before .before .fit .ensures
-    ∙ ap (λ (q : MsarParams). fitCall spec constant q 100 _ (replicate 12 zero⁺) (replicate 2 zero⁺)) (c .before .before .before .before .before .before .two .ensures))
+    ∙ ap (λ (q : MsarParams). fitCall spec constant q 100 _ (replicate 8 zero⁺) (replicate 2 zero⁺)) (c .before .before .before .before .before .before .two .ensures))
     ∙ p9 100 _
 
 pub constant-fit-spec : {M : Type 1} → statement M

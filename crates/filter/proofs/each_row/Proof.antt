@@ -13,11 +13,11 @@ use Rattle.filter.proofs.each_row.Statement.{statement}
 use Rattle.filter.proofs.each_row.Tie as tie
 
 abbrev Inv-loop : tie.InvT-loop
-Inv-loop shares phis deviations logarithms steps power m y n work₀ q predicted₀ means₀ weights₀ loglik₀ i₀ work predicted means weights loglik i =
-    (i ≤ n) × (length predicted ≡ 256) × (length means ≡ 256) × (length weights ≡ 256) × Kept q y shares n m work₀ i predicted loglik work
+Inv-loop shares phis deviations logarithms steps power m y n kept work₀ q predicted₀ means₀ weights₀ loglik₀ i₀ work predicted means weights loglik i =
+    (i ≤ n) × (length predicted ≡ 256) × (length means ≡ 256) × (length weights ≡ 256) × Kept q y shares n m kept work₀ i predicted loglik work
 
 abbrev μ-loop : tie.MeasureT-loop
-μ-loop shares phis deviations logarithms steps power m y n work₀ q predicted₀ means₀ weights₀ loglik₀ i₀ work predicted means weights loglik i = n - i
+μ-loop shares phis deviations logarithms steps power m y n kept work₀ q predicted₀ means₀ weights₀ loglik₀ i₀ work predicted means weights loglik i = n - i
 
 -- the places of the calls
 abbrev start-of : tie.At-loop Inv-loop μ-loop → tie.Start Inv-loop μ-loop
@@ -50,8 +50,8 @@ module _ (c : tie.After-weigh-row Inv-loop μ-loop) where
   longs : (length (c .weigh-row .last .1 .1 .1 .1 .1 .1 .1 .1 .1 .1 .0) ≡ 256) × (length (c .weigh-row .last .1 .1 .1 .1 .1 .1 .1 .1 .1 .1 .1 .0) ≡ 256)
   longs = let e = c .weigh-row .ensures (start .args .t1) (start .pre .1 .1 .1) in (e .1, e .2)
 
-  -- work memory has room for all rows
-  room : 2 * (start .args .n * start .args .m) ≤ length (loop .loop .work)
+  -- work memory has room for the rows that are kept
+  room : start .args .kept * start .args .m ≤ length (loop .loop .work)
   room = omega (arith, loop .loop .inv .4 .long, start .pre .1 .0 .5)
 
   -- row i is one of at most 4096
@@ -61,20 +61,20 @@ module _ (c : tie.After-weigh-row Inv-loop μ-loop) where
 loop-holds : tie.Need-loop-holds Inv-loop μ-loop
 loop-holds c =
     let s = c .before .before .before .before in
-    (omega arith, fill-long _ _ _ (c .first-row .ensures) (small s), search needs, search needs, kept-none _ _ _ _ _ _ (positive s) (s .pre .1 .0 .0) _ _ (c .first-row .ensures))
+    (omega arith, fill-long _ _ _ (c .first-row .ensures) (small s), search needs, search needs, kept-none _ _ _ _ _ _ _ (positive s) (s .pre .1 .0 .0) _ _ (c .first-row .ensures))
 
 returns : tie.Need-returns Inv-loop μ-loop
 returns c =
     let w = c .before .before .before in
     let s = start w in
     let kept = loop w .loop .inv .4 in
-    let bad = kept-bad _ _ _ _ _ _ (positive s) (s .pre .1 .0 .0) _ _ _ _ _ _ kept (weighed w) (turn-of w .loop-test .taken) (sym (c .before .before .is-usable .ensures) ∙ not-true _ (c .before .if1 .taken)) in
+    let bad = kept-bad _ _ _ _ _ _ _ (positive s) (s .pre .1 .0 .0) _ _ _ _ _ _ kept (weighed w) (turn-of w .loop-test .taken) (sym (c .before .before .is-usable .ensures) ∙ not-true _ (c .before .if1 .taken)) in
     (rw bad (c .refused .ensures zero⁺), ((kept .long, kept .rest), λ e. absurd (refusal-stays zero⁺ (c .refused .ensures zero⁺) e)))
 
 advance-requires : tie.Need-advance-requires Inv-loop μ-loop
 advance-requires c κs =
     let w = weighed-of c in
-    (positive (start w), start w .pre .1 .0 .1, small (start w), turn-of w .loop-test .taken, loop w .loop .inv .1, longs w .1, room w)
+    (positive (start w), start w .pre .1 .0 .1, small (start w), turn-of w .loop-test .taken, omega (arith, start w .pre .1 .0 .3, start w .pre .1 .0 .4), loop w .loop .inv .1, longs w .1, room w)
 
 add-i : tie.Need-add-i Inv-loop μ-loop
 add-i c = omega (arith, few (weighed-of (c .before .before .before)))
@@ -91,7 +91,7 @@ loop-again c =
       fill-long _ _ _ (done .1 .0) (rw (l .inv .1) (small s)) ∙ l .inv .1,
       longs w .0,
       fill-long _ _ _ (done .0) (rw (longs w .1) (small s)) ∙ longs w .1,
-      kept-more (s .args .t1) _ _ _ _ _ (positive s) (s .pre .1 .0 .0) _ _ _ _ _ _ (l .inv .4) (weighed w) _ _ _ _ _ _
+      kept-more (s .args .t1) _ _ _ _ _ _ (positive s) (s .pre .1 .0 .0) _ _ _ _ _ _ (l .inv .4) (weighed w) _ _ _ _ _ _
           (sym usable-is ∙ not-false _ (c .before .before .before .before .before .before .before .if1 .left)) (s .pre .1 .1 .0) (s .pre .1 .0 .2)
           (done .0) (done .1 .0) (s .pre .1 .0 .1) (done .1 .1) (turn-of w .loop-test .taken) (s .pre .1 .0 .5) _ logarithm,
     )
@@ -101,7 +101,7 @@ returns-2 c =
     let s = start-of (c .before) in
     let all : c .before .loop .i ≡ s .args .n = omega arith in
     let kept = c .before .loop .inv .4 in
-    (answer-is (s .args .t1) _ _ _ _ _ _ _ _ _ kept all, ((kept .long, kept .rest), λ e. all-held (s .args .t1) _ _ _ _ _ _ _ _ _ kept all))
+    (answer-is (s .args .t1) _ _ _ _ _ _ _ _ _ _ kept all, ((kept .long, kept .rest), λ e. all-held (s .args .t1) _ _ _ _ _ _ _ _ _ _ kept all))
 
 pub each-row-spec : {M : Type 1} → statement M
 each-row-spec =

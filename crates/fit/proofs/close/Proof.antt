@@ -1,10 +1,10 @@
 -- `close` meets its contract: the run's answer, its smoothed table where it was not refused, and memory cleared.
 use Prim.Native.Nat.{_*_, _<_}
-use mathlib.Core.Path.{refl, _∙_}
+use mathlib.Core.Path.{_∙_}
 use native.Mathlib.Omega.{arith}
 use borrow.Author.Needs.{needs}
 use Rattle.params.specs.Parameters.{k}
-use Rattle.calls.proofs.Runs.{run-answer, values-are, drop-more, run-cleared, work-small, run-says, smoothed-as-found, smoothed-is}
+use Rattle.calls.proofs.Runs.{run-answer, values-are, drop-more, all-cleared, run-says, smoothed-as-found, smoothed-is}
 use Rattle.fit.proofs.close.Statement.{statement}
 use Rattle.fit.proofs.close.Tie as tie
 
@@ -18,34 +18,17 @@ run-of c = c .before .before .before .before .before .before .before
 solved-shares-requires : tie.Need-solved-shares-requires
 solved-shares-requires c κs = let h = c .before .before .before .before .before .pre in (h .0 .high, omega (arith, h .0 .low))
 
-run-requires : tie.Need-run-requires
-run-requires c κs = let h = c .before .before .before .before .before .before .before .pre in (h .0, (h .1 .0, h .1 .1, h .1 .2, h .1 .3, omega (arith, h .1 .4)))
-
 smooth-rows-requires : tie.Need-smooth-rows-requires
 smooth-rows-requires c κs =
     let run = c .before .before .before .before .before .before in
     let h = start-of run .pre in
     (h .0, (h .1 .0, h .1 .1, h .1 .6, omega (arith, h .1 .4, run .run .ensures .1 .0 .0), h .1 .5))
 
-mul-clear : tie.Need-mul-clear
-mul-clear c = let s = start-of (run-of (c .before .before .before .before .before)) in omega (arith, work-small (s .args .t1) _ _ _ (s .pre .0 .few) (s .pre .1 .0) (s .pre .1 .2) (s .pre .1 .3))
-
-mul-clear-2 : tie.Need-mul-clear-2
-mul-clear-2 c = let s = start-of (run-of (c .before .before .before .before .before)) in omega (arith, work-small (s .args .t1) _ _ _ (s .pre .0 .few) (s .pre .1 .0) (s .pre .1 .2) (s .pre .1 .3))
-
 clear-requires : tie.Need-clear-requires
 clear-requires c κs =
-    let run = run-of (c .before .before .before .before .before) in
-    omega (arith, start-of run .pre .1 .4, run .run .ensures .1 .0 .0, c .before .before .before .before .before .smooth-rows .ensures .0 .0)
-
-mul-clear-3 : tie.Need-mul-clear-3
-mul-clear-3 c = let s = start-of (c .before .before .before .before .before) in omega (arith, work-small (s .args .t1) _ _ _ (s .pre .0 .few) (s .pre .1 .0) (s .pre .1 .2) (s .pre .1 .3))
-
-mul-clear-4 : tie.Need-mul-clear-4
-mul-clear-4 c = let s = start-of (c .before .before .before .before .before) in omega (arith, work-small (s .args .t1) _ _ _ (s .pre .0 .few) (s .pre .1 .0) (s .pre .1 .2) (s .pre .1 .3))
-
-clear-requires-2 : tie.Need-clear-requires-2
-clear-requires-2 c κs = omega (arith, start-of (c .before .before .before .before .before) .pre .1 .4, c .before .before .before .before .before .run .ensures .1 .0 .0)
+    let smoothed = c .before .before .before .before .before in
+    let run = run-of smoothed in
+    omega (arith, start-of run .pre .1 .4, run .run .ensures .1 .0 .0, smoothed .smooth-rows .ensures .0 .0)
 
 returns : tie.Need-returns
 returns c =
@@ -60,7 +43,7 @@ returns c =
     let pos : 0 < k (a .t1) = omega (arith, s .pre .0 .low) in (
       answer,
       (
-        run-cleared _ _ _ _ (drop-more (a .n * a .m) (2 * (a .n * a .m)) _ _ (omega arith) (done .smooth-rows .ensures .0 .1) ∙ ran .1 .0 .1) (c .before .before .clear .ensures),
+        all-cleared (2 * a .n * a .m) (2 * (a .n * a .m)) _ _ (drop-more (a .n * a .m) (2 * a .n * a .m) _ _ (omega arith) (done .smooth-rows .ensures .0 .1) ∙ ran .1 .0 .1) (c .before .before .clear .ensures) (omega arith),
         smoothed-is (a .t1) _ _ _ pos (s .pre .1 .0) (s .pre .1 .1) _ _ _ (ran .1 .1 d) (s .pre .1 .2) (run-says (a .t1) _ answer d) (values-are (a .t1) (a .y .now) shares) _ (done .smooth-rows .ensures .1 _ _ (ran .1 .1 d)),
       ),
     )
@@ -71,23 +54,22 @@ returns-2 c =
     let q = start-of run .args .t1 in
     let ran = run .run .ensures in
     let answer = run-answer q _ (run .before .before .solved-shares .ensures) (ran .0) in
-    (answer, (run-cleared _ _ _ _ (ran .1 .0 .1) (c .before .before .clear2 .ensures), smoothed-as-found q _ (run-says q _ answer (c .before .before .before .before .enum-told2 .given .1)) _))
+    (answer, (all-cleared (2 * start-of run .args .n * start-of run .args .m) (2 * (start-of run .args .n * start-of run .args .m)) _ _ (ran .1 .0 .1) (c .before .before .clear2 .ensures) (omega arith), smoothed-as-found q _ (run-says q _ answer (c .before .before .before .before .enum-told2 .given .1)) _))
 
 pub close-spec : {M : Type 1} → statement M
 close-spec =
     tie.close
     (tie.spec
     solved-shares-requires
-    run-requires
+    (λ c. search needs)
+    (λ c κs. search needs)
+    (λ c. search needs)
+    (λ c. search needs)
     (λ c. search needs)
     smooth-rows-requires
-    mul-clear
-    mul-clear-2
     clear-requires
     (λ c. search needs)
-    mul-clear-3
-    mul-clear-4
-    clear-requires-2
+    (λ c κs. search needs)
     (λ c. search needs)
     (λ c. search needs)
     returns

@@ -1,9 +1,10 @@
 -- `run_fit` meets its contract: the refusal of the passes, or what the closing pass says at the parameters reached.
+use Prim.Native.Nat.{_*_}
 use mathlib.Core.Bool.{false}
 use native.Mathlib.Omega.{arith}
 use borrow.Author.Needs.{needs}
 use Rattle.number.specs.Number.{zero⁺}
-use Rattle.calls.proofs.Runs.{run-cleared, work-small}
+use Rattle.calls.proofs.Runs.{all-cleared, cells-small}
 use Rattle.fit.proofs.Ends.{closing-is, closing-ready, end-good, end-passed, end-refused, table-passed, table-refused}
 use Rattle.fit.proofs.run_fit.Statement.{statement}
 use Rattle.fit.proofs.run_fit.Tie as tie
@@ -19,10 +20,10 @@ passes-requires : tie.Need-passes-requires
 passes-requires c κs = let h = c .before .before .before .before .pre in (h .0, (h .1 .0, h .1 .1, h .1 .2, omega (arith, h .1 .3)))
 
 mul-clear : tie.Need-mul-clear
-mul-clear c = let s = start-of (c .before .before .before .before .before .before .before) in omega (arith, work-small (s .args .start) _ _ _ (s .pre .0 .shape .few) (s .pre .1 .0) (s .pre .0 .rows-are) (s .pre .0 .short))
+mul-clear c = let s = start-of (c .before .before .before .before .before .before .before) in omega (arith, cells-small (s .args .start) _ _ _ (s .pre .0 .shape .few) (s .pre .1 .0) (s .pre .0 .rows-are) (s .pre .0 .short))
 
 mul-clear-2 : tie.Need-mul-clear-2
-mul-clear-2 c = let s = start-of (c .before .before .before .before .before .before .before) in omega (arith, work-small (s .args .start) _ _ _ (s .pre .0 .shape .few) (s .pre .1 .0) (s .pre .0 .rows-are) (s .pre .0 .short))
+mul-clear-2 c = let s = start-of (c .before .before .before .before .before .before .before) in omega (arith, cells-small (s .args .start) _ _ _ (s .pre .0 .shape .few) (s .pre .1 .0) (s .pre .0 .rows-are) (s .pre .0 .short))
 
 clear-requires : tie.Need-clear-requires
 clear-requires c κs = omega (arith, start-of (c .before .before .before .before .before .before .before) .pre .1 .3, c .before .before .before .before .before .before .before .passes .ensures .1 .0)
@@ -45,20 +46,22 @@ ended-requires c κs =
 returns : tie.Need-returns
 returns c =
     let ended = c .before .before .before .before .before .before .before .before in
-    let start = start-of (passes-of ended) .args .start in
+    let s = start-of (passes-of ended) in
+    let start = s .args .start in
     let did = passes-of ended .passes .ensures in
     let gone = c .before .before .before .before .before .before .check .given .1 in
-    (end-refused _ _ _ start (did .0) (ended .end-of .ensures) gone (c .refused .ensures start zero⁺ 0 false), (run-cleared _ _ _ _ (did .1 .1) (c .before .before .before .clear .ensures), table-refused _ _ _ start (did .0) (ended .end-of .ensures) _ gone))
+    (end-refused _ _ _ start (did .0) (ended .end-of .ensures) gone (c .refused .ensures start zero⁺ 0 false), (all-cleared (2 * (s .args .n * s .args .m)) (2 * (s .args .n * s .args .m)) _ _ (did .1 .1) (c .before .before .before .clear .ensures) (omega arith), table-refused _ _ _ start (did .0) (ended .end-of .ensures) _ gone))
 
 returns-2 : tie.Need-returns-2
 returns-2 c =
     let ended = c .before .before .before .before .before .before .before .before .before .before in
-    let start = start-of (passes-of ended) .args .start in
+    let s = start-of (passes-of ended) in
+    let start = s .args .start in
     let did = passes-of ended .passes .ensures in
     let passed = c .before .before .before .before .before .before .before .before .enum-told .given .1 in
     let closing = c .before .before .before .before .before .close .ensures in (
       end-passed _ _ _ start (did .0) (ended .end-of .ensures) passed (closing-is _ (passes-of ended .passes .result .params) _ _ (closing .0) (c .ended .ensures)),
-      (run-cleared _ _ _ _ (did .1 .1) (closing .1 .0), table-passed _ _ _ start (did .0) (ended .end-of .ensures) _ passed (closing .1 .1)),
+      (all-cleared (2 * (s .args .n * s .args .m)) (2 * (s .args .n * s .args .m)) _ _ (did .1 .1) (closing .1 .0) (omega arith), table-passed _ _ _ start (did .0) (ended .end-of .ensures) _ passed (closing .1 .1)),
     )
 
 pub run-fit-spec : {M : Type 1} → statement M
