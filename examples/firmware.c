@@ -43,7 +43,7 @@ static enum msar_refusal report(size_t work_len) {
     double real[MSAR_REAL];
 
     msar_filter(REGIMES, ORDER, false, true, series, READINGS, counts, numbers, work, work_len, table, TABLE,
-                whole, real);
+                MSAR_RULE_LITERATURE, whole, real);
     if (whole[MSAR_WHOLE_REFUSAL] == MSAR_ANSWERED)
         printf("reading %d: sound %.6f, failing %.6f\n", READINGS - 1, table[MSAR_TABLE_AT(REGIMES, ROWS - 1, SOUND)],
                table[MSAR_TABLE_AT(REGIMES, ROWS - 1, FAILING)]);

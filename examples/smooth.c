@@ -41,7 +41,7 @@ static void run(size_t work_len) {
     double real[MSAR_REAL];
 
     msar_smooth(REGIMES, ORDER, false, false, series, READINGS, counts, numbers, work, work_len, filtered, TABLE,
-                smoothed, TABLE, whole, real);
+                smoothed, TABLE, MSAR_RULE_LITERATURE, whole, real);
     if (whole[MSAR_WHOLE_REFUSAL] != MSAR_ANSWERED) {
         printf("refusal %zu, place %zu, value %g\n", whole[MSAR_WHOLE_REFUSAL], whole[MSAR_WHOLE_PLACE],
                real[MSAR_REAL_VALUE]);

@@ -26,9 +26,9 @@ extern "C" {
 #endif
 
 /* The version of the library that this file goes with; `msar --version` says it too. */
-#define MSAR_VERSION "0.3.0"
+#define MSAR_VERSION "0.4.0"
 #define MSAR_VERSION_MAJOR 0
-#define MSAR_VERSION_MINOR 3
+#define MSAR_VERSION_MINOR 4
 #define MSAR_VERSION_PATCH 0
 
 /* ---- sizes
@@ -97,6 +97,10 @@ extern "C" {
 /* The tables filtered and smoothed: the probability that a row has a label. */
 #define MSAR_TABLE_AT(k, row, label) ((row) * (k) + (label))
 
+/* The rule by which msar_loglike, msar_filter and msar_smooth predict at order 0; "calls on a series" says how. */
+#define MSAR_RULE_RUST 1       /* as the Rust that the library was ported from, to compare answers with it */
+#define MSAR_RULE_LITERATURE 2 /* as the literature has it: what most callers want */
+
 /* An answer is whole[MSAR_WHOLE] and real[MSAR_REAL], of which every place is written every time. Places that a call
    has no use for are 0 and +0. */
 #define MSAR_WHOLE 4
@@ -122,6 +126,9 @@ enum msar_refusal {
     MSAR_LONG_SERIES = 5,           /* more than MSAR_MOST_READINGS readings; place: their number */
     MSAR_BAD_READING = 6,           /* a reading is not finite; place: its index */
     MSAR_SHORT_MEMORY = 7,          /* lent memory is too short; place: the length needed */
+
+    /* the rule */
+    MSAR_OTHER_RULE = 29,           /* neither MSAR_RULE_RUST nor MSAR_RULE_LITERATURE */
 
     /* the parameters */
     MSAR_FEW_MEANS = 10,            /* fewer than 2 means; place: their number */
@@ -179,30 +186,32 @@ bool msar_matches(size_t k, size_t order, bool switching_ar, bool switching_vari
    msar_smooth and msar_fit, whatever they are; as many, from the first on, are +0 afterwards. filtered and smoothed: at
    least MSAR_TABLE(n, k) numbers each; P(label of row i is j) is written at MSAR_TABLE_AT(k, i, j). What lies beyond
    these places is left as found. The checks come in this order: spec (1 to 3), series (4 to 6), lent memory (7: work,
-   then the tables in their order), parameters (10 to 18), shape (20), and for a fit 24 and 25. Where one of these
-   refuses, all lent memory is left as found; where the run itself refuses (21 to 23, 26, and in a fit's own steps 11
-   and 13 to 16), the tables are left as found and work is cleared.
+   then the tables in their order), rule (29, not of a fit), parameters (10 to 18), shape (20), and for a fit 24 and 25.
+   Where one of these refuses, all lent memory is left as found; where the run itself refuses (21 to 23, 26, and in a
+   fit's own steps 11 and 13 to 16), the tables are left as found and work is cleared.
 
-   At order 0 the calls follow the Rust they were ported from: every prediction but the first is column 0 of P,
-   whatever came before, and the smoothed numbers are no probabilities: a row may total more than 1 and run to
-   infinity or NaN. */
+   rule: how a row after the first is predicted at order 0. From order 1 up both rules give the same bits.
+     - MSAR_RULE_LITERATURE, 2: of label i the sum over j of P[i][j] times the filtered probability of label j in the
+       row before. This is what most callers want.
+     - MSAR_RULE_RUST, 1: column 0 of P, whatever came before, so that the smoothed numbers are no probabilities: a row
+       may total more than 1 and run to infinity or NaN. It is kept so that answers can be compared with the Rust. */
 
 /* The log-likelihood of the series. */
 void msar_loglike(size_t k, size_t order, bool switching_ar, bool switching_variance, const double *series,
                   size_t series_len, const size_t counts[MSAR_COUNTS], const double numbers[MSAR_NUMBERS], double *work,
-                  size_t work_len, size_t whole[MSAR_WHOLE], double real[MSAR_REAL]);
+                  size_t work_len, size_t rule, size_t whole[MSAR_WHOLE], double real[MSAR_REAL]);
 
 /* The log-likelihood, and the probabilities of the labels given the readings up to each row. */
 void msar_filter(size_t k, size_t order, bool switching_ar, bool switching_variance, const double *series,
                  size_t series_len, const size_t counts[MSAR_COUNTS], const double numbers[MSAR_NUMBERS], double *work,
-                 size_t work_len, double *filtered, size_t filtered_len, size_t whole[MSAR_WHOLE],
+                 size_t work_len, double *filtered, size_t filtered_len, size_t rule, size_t whole[MSAR_WHOLE],
                  double real[MSAR_REAL]);
 
 /* The same, and the probabilities of the labels given all readings. */
 void msar_smooth(size_t k, size_t order, bool switching_ar, bool switching_variance, const double *series,
                  size_t series_len, const size_t counts[MSAR_COUNTS], const double numbers[MSAR_NUMBERS], double *work,
                  size_t work_len, double *filtered, size_t filtered_len, double *smoothed, size_t smoothed_len,
-                 size_t whole[MSAR_WHOLE], double real[MSAR_REAL]);
+                 size_t rule, size_t whole[MSAR_WHOLE], double real[MSAR_REAL]);
 
 /* A fit by EM from the parameters in numbers: at most max_iter passes, then a closing one at the parameters reached.
    From the second pass on it stops as converged where the log-likelihood gained at most tol; a NaN tol never stops

@@ -158,8 +158,8 @@ def value_of(place, cell):
     return value
 
 
-NO_PROBABILITIES = ("such a table holds no probabilities, as smooth may write at order 0; "
-                    "draw what msar filter writes, or take a model of order 1 or more")
+NO_PROBABILITIES = ("such a table holds no probabilities, as smooth --rule 1 may write at order 0; "
+                    "leave out --rule 1, or draw what msar filter writes")
 
 
 def shares_of(place, cells):

@@ -13,7 +13,7 @@
 enum { LIMIT = 64 * 1024, ALLOWANCE = 16 * 1024, PAGE = 4096, PAINT = 0xA5, READINGS = MSAR_MOST_READINGS };
 
 struct job {
-    size_t k, order;
+    size_t k, order, rule;
     bool switching_ar;
     double *series, *work, *filtered, *smoothed;
     size_t work_len, table_len;
@@ -31,7 +31,7 @@ static void *loglike(void *given)
 {
     struct job *j = given;
     msar_loglike(j->k, j->order, j->switching_ar, true, j->series, READINGS, j->counts, j->numbers, j->work,
-                 j->work_len, j->whole, j->real);
+                 j->work_len, j->rule, j->whole, j->real);
     return NULL;
 }
 
@@ -39,7 +39,7 @@ static void *filter(void *given)
 {
     struct job *j = given;
     msar_filter(j->k, j->order, j->switching_ar, true, j->series, READINGS, j->counts, j->numbers, j->work, j->work_len,
-                j->filtered, j->table_len, j->whole, j->real);
+                j->filtered, j->table_len, j->rule, j->whole, j->real);
     return NULL;
 }
 
@@ -47,7 +47,7 @@ static void *smooth(void *given)
 {
     struct job *j = given;
     msar_smooth(j->k, j->order, j->switching_ar, true, j->series, READINGS, j->counts, j->numbers, j->work, j->work_len,
-                j->filtered, j->table_len, j->smoothed, j->table_len, j->whole, j->real);
+                j->filtered, j->table_len, j->smoothed, j->table_len, j->rule, j->whole, j->real);
     return NULL;
 }
 
@@ -103,9 +103,9 @@ static size_t need(void *(*call)(void *), size_t k, size_t order)
     return call == loglike || call == filter ? MSAR_WORK_FILTER(rows, windows) : MSAR_WORK_SMOOTH(rows, windows);
 }
 
-static struct job job(size_t k, size_t order, bool switching_ar)
+static struct job job(size_t k, size_t order, bool switching_ar, size_t rule)
 {
-    struct job j = {.k = k, .order = order, .switching_ar = switching_ar};
+    struct job j = {.k = k, .order = order, .rule = rule, .switching_ar = switching_ar};
     size_t rows = MSAR_ROWS(READINGS, order), blocks = switching_ar ? k : 1, i, b, lag;
 
     j.table_len = MSAR_TABLE(rows, k);
@@ -134,14 +134,18 @@ int main(void)
     static const struct {
         size_t k, order;
         bool switching_ar;
-    } sizes[] = {{2, 0, false}, {2, MSAR_MOST_ORDER, false}, {4, 3, false}, {MSAR_MOST_REGIMES, 1, false},
-                 {2, MSAR_MOST_ORDER, true}, {4, 3, true}, {MSAR_MOST_REGIMES, 1, true}};
+        size_t rule; /* not of a fit; it matters at order 0 alone */
+    } sizes[] = {{2, 0, false, MSAR_RULE_RUST}, {2, 0, false, MSAR_RULE_LITERATURE},
+                 {MSAR_MOST_REGIMES, 0, false, MSAR_RULE_RUST}, {MSAR_MOST_REGIMES, 0, false, MSAR_RULE_LITERATURE},
+                 {2, MSAR_MOST_ORDER, false, MSAR_RULE_LITERATURE}, {4, 3, false, MSAR_RULE_LITERATURE},
+                 {MSAR_MOST_REGIMES, 1, false, MSAR_RULE_LITERATURE}, {2, MSAR_MOST_ORDER, true, MSAR_RULE_LITERATURE},
+                 {4, 3, true, MSAR_RULE_LITERATURE}, {MSAR_MOST_REGIMES, 1, true, MSAR_RULE_LITERATURE}};
     static void *(*const calls[])(void *) = {loglike, filter, smooth, fit};
     static const char *const names[] = {"loglike", "filter", "smooth", "fit"};
     size_t own = depth(nothing, NULL), deepest[2] = {0, 0}, s, c;
 
     for (s = 0; s < sizeof sizes / sizeof *sizes; s++) {
-        struct job j = job(sizes[s].k, sizes[s].order, sizes[s].switching_ar);
+        struct job j = job(sizes[s].k, sizes[s].order, sizes[s].switching_ar, sizes[s].rule);
         for (c = 0; c < sizeof calls / sizeof *calls; c++) {
             size_t used;
             j.work_len = need(calls[c], j.k, j.order);
@@ -149,8 +153,10 @@ int main(void)
             /* a fit of order 0 is refused */
             if (j.whole[MSAR_WHOLE_REFUSAL] != (calls[c] == fit && j.order == 0 ? MSAR_ORDER_ZERO : MSAR_ANSWERED))
                 stop("a call refused");
-            printf("stack: %s, k = %zu, order %zu, %s coefficients, %d readings: %zu bytes\n", names[c], j.k, j.order,
-                   j.switching_ar ? "switching" : "shared", READINGS, used);
+            printf("stack: %s, k = %zu, order %zu, ", names[c], j.k, j.order);
+            if (calls[c] != fit)
+                printf("rule %zu, ", j.rule);
+            printf("%s coefficients, %d readings: %zu bytes\n", j.switching_ar ? "switching" : "shared", READINGS, used);
             if (used > deepest[calls[c] == fit])
                 deepest[calls[c] == fit] = used;
         }

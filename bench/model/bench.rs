@@ -1,15 +1,17 @@
 //! Times filter, smooth and fit of the archive beside the Rust's own, on the same series and parameters, turn by turn.
 //! Prints the median of many turns for each, in processor time of the thread, so that other work on the machine counts little;
-//! and stops where the two disagree by more than their elementary functions.
+//! and stops where the two disagree by more than their elementary functions. At order 0 it times rule 2 too, which the Rust has
+//! not, beside the Rust's own.
 use tsecon_regime::{FitResult, MarkovSwitchingAr, MsarParams, MsarSpec};
 
 #[rustfmt::skip]
 extern "C" {
     fn msar_filter(k: usize, order: usize, ar: bool, variance: bool, series: *const f64, readings: usize, counts: *const usize,
-        numbers: *const f64, work: *mut f64, work_len: usize, filtered: *mut f64, filtered_len: usize, whole: *mut usize, real: *mut f64);
+        numbers: *const f64, work: *mut f64, work_len: usize, filtered: *mut f64, filtered_len: usize, rule: usize,
+        whole: *mut usize, real: *mut f64);
     fn msar_smooth(k: usize, order: usize, ar: bool, variance: bool, series: *const f64, readings: usize, counts: *const usize,
         numbers: *const f64, work: *mut f64, work_len: usize, filtered: *mut f64, filtered_len: usize, smoothed: *mut f64,
-        smoothed_len: usize, whole: *mut usize, real: *mut f64);
+        smoothed_len: usize, rule: usize, whole: *mut usize, real: *mut f64);
     fn msar_fit(k: usize, order: usize, ar: bool, variance: bool, series: *const f64, readings: usize, counts: *const usize,
         numbers: *const f64, work: *mut f64, work_len: usize, smoothed: *mut f64, smoothed_len: usize, max_iter: usize, tol: f64,
         fitted: *mut f64, whole: *mut usize, real: *mut f64);
@@ -128,23 +130,23 @@ impl Lent {
         }
     }
 
-    fn filter(&mut self, d: &Drawn) -> f64 {
+    fn filter(&mut self, d: &Drawn, rule: usize) -> f64 {
         unsafe {
             msar_filter(
                 d.spec.k_regimes, d.spec.order, false, true, d.series.as_ptr(), d.series.len(), d.counts.as_ptr(),
                 d.numbers.as_ptr(), self.work.as_mut_ptr(), self.work.len(), self.filtered.as_mut_ptr(),
-                self.filtered.len(), self.whole.as_mut_ptr(), self.real.as_mut_ptr(),
+                self.filtered.len(), rule, self.whole.as_mut_ptr(), self.real.as_mut_ptr(),
             )
         }
         self.real[1]
     }
 
-    fn smooth(&mut self, d: &Drawn) -> f64 {
+    fn smooth(&mut self, d: &Drawn, rule: usize) -> f64 {
         unsafe {
             msar_smooth(
                 d.spec.k_regimes, d.spec.order, false, true, d.series.as_ptr(), d.series.len(), d.counts.as_ptr(),
                 d.numbers.as_ptr(), self.work.as_mut_ptr(), self.work.len(), self.filtered.as_mut_ptr(),
-                self.filtered.len(), self.smoothed.as_mut_ptr(), self.smoothed.len(), self.whole.as_mut_ptr(),
+                self.filtered.len(), self.smoothed.as_mut_ptr(), self.smoothed.len(), rule, self.whole.as_mut_ptr(),
                 self.real.as_mut_ptr(),
             )
         }
@@ -191,21 +193,40 @@ fn agree(ours: &[f64], theirs: &[Vec<f64>]) {
     }
 }
 
+/// Ours answer, and by rule 1 as the Rust does.
+fn check(d: &Drawn, lent: &mut Lent, rule: usize) {
+    let model = MarkovSwitchingAr::new(&d.series, d.spec).expect("this series binds");
+    lent.filter(d, rule);
+    assert_eq!(lent.whole[0], 0, "our filter refused");
+    if rule == 1 {
+        agree(&lent.filtered, &model.filter(&d.params).expect("the Rust filters").filtered_prob);
+    }
+    lent.smooth(d, rule);
+    assert_eq!(lent.whole[0], 0, "our smoother refused");
+    if rule == 1 {
+        agree(&lent.smoothed, &model.smooth(&d.params).expect("the Rust smooths").smoothed_prob);
+    }
+}
+
+fn filter_and_smoother(d: &Drawn, rule: usize) {
+    let (k, p, readings) = (d.spec.k_regimes, d.spec.order, d.series.len());
+    let mut lent = Lent::new(d);
+    let bind = || MarkovSwitchingAr::new(&d.series, d.spec).expect("this series binds");
+    let said = if rule == 1 { "" } else { "  ours by rule 2" };
+    check(d, &mut lent, rule);
+    let (ours, theirs) = medians(15, || lent.filter(d, rule), || bind().filter(&d.params).map_or(0.0, |r| r.loglik));
+    println!("filter {k:2} {p} {readings:5} {ours:11.4} {theirs:11.4} {:11.2}{said}", theirs / ours);
+    let (ours, theirs) = medians(15, || lent.smooth(d, rule), || bind().smooth(&d.params).map_or(0.0, |r| r.loglik));
+    println!("smooth {k:2} {p} {readings:5} {ours:11.4} {theirs:11.4} {:11.2}{said}", theirs / ours);
+}
+
 fn filters_and_smoothers() {
-    for (k, p) in [(2, 0), (2, 1), (2, 4), (2, 7), (4, 3), (16, 1)] {
+    for (k, p) in [(2, 0), (16, 0), (2, 1), (2, 4), (2, 7), (4, 3), (16, 1)] {
         for readings in [256, 4096] {
             let d = draw(k, p, readings);
-            let mut lent = Lent::new(&d);
-            let bind = || MarkovSwitchingAr::new(&d.series, d.spec).expect("this series binds");
-            lent.filter(&d);
-            assert_eq!(lent.whole[0], 0, "our filter refused");
-            agree(&lent.filtered, &bind().filter(&d.params).expect("the Rust filters").filtered_prob);
-            lent.smooth(&d);
-            agree(&lent.smoothed, &bind().smooth(&d.params).expect("the Rust smooths").smoothed_prob);
-            let (ours, theirs) = medians(15, || lent.filter(&d), || bind().filter(&d.params).map_or(0.0, |r| r.loglik));
-            println!("filter {k:2} {p} {readings:5} {ours:11.4} {theirs:11.4} {:11.2}", theirs / ours);
-            let (ours, theirs) = medians(15, || lent.smooth(&d), || bind().smooth(&d.params).map_or(0.0, |r| r.loglik));
-            println!("smooth {k:2} {p} {readings:5} {ours:11.4} {theirs:11.4} {:11.2}", theirs / ours);
+            for rule in 1..=if p == 0 { 2 } else { 1 } {
+                filter_and_smoother(&d, rule);
+            }
         }
     }
 }

@@ -15,7 +15,7 @@
 
 enum { READINGS = 4096, TURNS = 25, PARTS = 7 };
 
-static size_t k, order, rows, windows, power, counts[MSAR_COUNTS];
+static size_t k, order, rule, rows, windows, power, counts[MSAR_COUNTS];
 static double series[READINGS], numbers[MSAR_NUMBERS], *work, *exponents, *copied, *table;
 static volatile double sink;
 
@@ -75,10 +75,10 @@ static void call(int filters) {
     double real[MSAR_REAL];
     if (filters)
         msar_filter(k, order, false, true, series, READINGS, counts, numbers, work, MSAR_WORK_FILTER(rows, windows), table,
-                    MSAR_TABLE(rows, k), whole, real);
+                    MSAR_TABLE(rows, k), rule, whole, real);
     else
-        msar_loglike(k, order, false, true, series, READINGS, counts, numbers, work, MSAR_WORK_FILTER(rows, windows), whole,
-                     real);
+        msar_loglike(k, order, false, true, series, READINGS, counts, numbers, work, MSAR_WORK_FILTER(rows, windows), rule,
+                     whole, real);
     if (whole[MSAR_WHOLE_REFUSAL] != MSAR_ANSWERED)
         exit(1);
     sink = real[MSAR_REAL_LOGLIK];
@@ -121,12 +121,13 @@ static int less(const void *a, const void *b) {
 }
 
 int main(void) {
-    static const size_t sizes[][2] = {{2, 4}, {2, 7}, {4, 3}, {16, 1}};
-    puts("  k p   filter loglike | exponentials divisions  stores    sums clearing | bound filter/bound");
+    /* k, order and rule, which makes a difference at order 0 alone */
+    static const size_t sizes[][3] = {{2, 4, 1}, {2, 7, 1}, {4, 3, 1}, {16, 1, 1}, {2, 0, 1}, {2, 0, 2}, {16, 0, 1}, {16, 0, 2}};
+    puts("  k p rule   filter loglike | exponentials divisions  stores    sums clearing | bound filter/bound");
     for (size_t s = 0; s < sizeof sizes / sizeof *sizes; s++) {
         double turn[TURNS], median[PARTS];
-        k = sizes[s][0], order = sizes[s][1], rows = MSAR_ROWS(READINGS, order), windows = MSAR_WINDOWS(k, order);
-        power = windows / k;
+        k = sizes[s][0], order = sizes[s][1], rule = sizes[s][2];
+        rows = MSAR_ROWS(READINGS, order), windows = MSAR_WINDOWS(k, order), power = windows / k;
         work = calloc(MSAR_WORK_FILTER(rows, windows), sizeof *work), table = calloc(rows * k, sizeof *table);
         exponents = calloc(rows * windows, sizeof *exponents), copied = calloc(rows * windows, sizeof *copied);
         if (!work || !table || !exponents || !copied)
@@ -145,8 +146,8 @@ int main(void) {
             qsort(turn, TURNS, sizeof *turn, less);
             median[p] = turn[TURNS / 2];
         }
-        printf("%3zu %zu   %6.2f  %6.2f |       %6.2f    %6.2f  %6.2f  %6.2f   %6.2f |%6.2f         %4.2f\n", k, order, median[0],
-               median[1], median[2], median[3], median[4], median[5], median[6], median[2] + median[3],
+        printf("%3zu %zu %4zu   %6.2f  %6.2f |       %6.2f    %6.2f  %6.2f  %6.2f   %6.2f |%6.2f         %4.2f\n", k, order, rule,
+               median[0], median[1], median[2], median[3], median[4], median[5], median[6], median[2] + median[3],
                median[0] / (median[2] + median[3]));
         free(work), free(table), free(exponents), free(copied);
     }

@@ -2,7 +2,8 @@
 # Times filter, smooth and fits of 20 passes beside the untouched Rust, and prints one table.
 # bench/model/run.sh SOURCES [all|fits [LIBRARY]]
 # SOURCES: the folder with model.rs, params.rs, spec.rs, linsolve.rs. LIBRARY: a folder with libc_interface.a to time instead of
-# this repository's, of another version or made for another machine than x86-64. It leaves nothing behind but rt's own target/.
+# this repository's, of another version whose calls take a rule (0.4.0 on), or made for another machine than x86-64. It leaves
+# nothing behind but rt's own target/.
 set -euo pipefail
 
 stop() {

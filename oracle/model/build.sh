@@ -4,7 +4,7 @@
 # SOURCES: the folder with model.rs, params.rs, spec.rs, linsolve.rs; they are never copied into the repository.
 # FOLDER: a scratch folder outside the repository. It gets
 #   routed/oracle     root, logarithm and exponential are oracle/shim/fm.rs; the places and columns that the Rust's errors do not
-#                     say, and how often the filter began, are written down
+#                     say, and how often the filter began, are written down; at order zero rule 2 has its own prediction
 #   untouched/oracle  the sources byte for byte, but for lines at the end of model.rs
 set -euo pipefail
 
@@ -43,6 +43,14 @@ route() { # MODEL
     done
 }
 
+# Puts rule 2's prediction at order zero beside the Rust's line, which stays for all else.
+add_rule() { # MODEL
+    local two='crate::rule::predicted(|x| params.transition(s0, x), prev)'
+    sed -E -i "s/^( *\*slot = )(params\.transition\(s0, s1\) \* acc);\$/\1if crate::rule::differs(p) { $two } else { \2 };/" "$1"
+    stands "$1" 1 "*slot = if crate::rule::differs(p) { $two } else { params.transition(s0, s1) * acc };"
+    stands "$1" 1 'params.transition(s0, s1) * acc'
+}
+
 # Writes down that the filter begins, the label of a refusal 22, the row of a refusal 23 and the column of a refusal 21.
 note_model() { # MODEL
     sed -E -i \
@@ -75,7 +83,8 @@ note_params() { # PARAMS
 }
 
 compile() { # ARGUMENTS
-    rustc --edition 2021 -C opt-level=3 -C codegen-units=1 -A dead_code -L "$room" --out-dir "$room" "$@"
+    rustc --edition 2021 -C opt-level=3 -C codegen-units=1 -A dead_code --check-cfg 'cfg(routed, untouched)' \
+        -L "$room" --out-dir "$room" "$@"
 }
 
 for flavour in routed untouched; do
@@ -85,14 +94,15 @@ for flavour in routed untouched; do
     for name in model params spec linsolve; do
         cat "$sources/$name.rs" >"$room/src/$name.rs"
     done
-    cp "$here"/standins/{lib,error,results,met,solver}.rs "$here"/../{shim/fm,linsolve/column}.rs "$room/src/"
+    cp "$here"/standins/{lib,error,results,met,rule,solver}.rs "$here"/../{shim/fm,linsolve/column}.rs "$room/src/"
     if [[ $flavour == routed ]]; then
         route "$room/src/model.rs"
+        add_rule "$room/src/model.rs"
         note_model "$room/src/model.rs"
         note_params "$room/src/params.rs"
     fi
     cat "$here/standins/model_tail.rs" >>"$room/src/model.rs"
     compile --crate-type rlib --crate-name tsecon_stats "$here/standins/tsecon_stats.rs"
-    compile --crate-type rlib --crate-name tsecon_regime --extern tsecon_stats "$room/src/lib.rs"
+    compile --crate-type rlib --crate-name tsecon_regime --cfg "$flavour" --extern tsecon_stats "$room/src/lib.rs"
     compile --crate-name oracle --extern tsecon_regime "$here/oracle.rs"
 done

@@ -1,6 +1,6 @@
 /* Answers the oracle's cases through the C interface of the library, and holds every call to what document 01, and document 02
-   in Q-8, promise of lent memory: candidate [short] <cases >answers. README.md has the lines. With `short` each model call is
-   made again with each lent memory one place short.
+   in Q-5 and Q-8, promise of lent memory and of the rule: candidate [again] <cases >answers. README.md has the lines. With `again`
+   each model call is made again: with each lent memory one place short, and from order one up with the other rule.
 
    Whatever is lent holds a pattern that no call writes, and so do GUARD places before and behind it. */
 #define _POSIX_C_SOURCE 200809L
@@ -72,6 +72,13 @@ static bool as_found(struct lent m, size_t used) {
     return true;
 }
 
+/* Every NaN is the same number here. */
+static bool same_numbers(const double *a, const double *b, size_t n) {
+    for (size_t i = 0; i < n; i++)
+        if (raw(a[i]) != raw(b[i]) && !(a[i] != a[i] && b[i] != b[i])) return false;
+    return true;
+}
+
 static bool is_zero(struct lent m, size_t from, size_t to) {
     for (size_t i = from; i < to && i < m.length; i++)
         if (raw(places(m)[i]) != 0) return false;
@@ -93,7 +100,7 @@ static struct {
     size_t readings;
     double *y;
     struct parameters q;
-    size_t max_iter;
+    size_t rule, max_iter;
     double tol;
 } c;
 
@@ -114,6 +121,7 @@ static double number(void) { return of_bits(strtoull(word(), NULL, 16)); }
 static void begin(void) {
     snprintf(c.id, sizeof c.id, "%s", word());
     snprintf(c.call, sizeof c.call, "%s", word());
+    c.rule = 0; /* none: a model call without its line is refused */
     for (size_t i = 0; i < NUMBERS; i++) c.q.numbers[i] = of_bits(UNUSED + i);
 }
 
@@ -149,6 +157,7 @@ static bool read_line(const char *name) {
         c.q.counts[3] = whole();
         read_part(&c.q.counts[4], 272, 112);
     } else if (!strcmp(name, "var")) read_part(&c.q.counts[5], 384, 16);
+    else if (!strcmp(name, "rule")) c.rule = whole();
     else if (!strcmp(name, "fit")) {
         c.max_iter = whole();
         c.tol = number();
@@ -208,13 +217,14 @@ static void needs(size_t need[MOST_LENT]) {
 static void call_model(const struct parameters *q, struct lent m[MOST_LENT], struct lent fitted, struct answer *a) {
     if (is_call("loglike"))
         msar_loglike(c.k, c.p, c.switching_ar, c.switching_variance, c.y, c.readings, q->counts, q->numbers,
-                     places(m[0]), m[0].length, a->whole, a->real);
+                     places(m[0]), m[0].length, c.rule, a->whole, a->real);
     if (is_call("filter"))
         msar_filter(c.k, c.p, c.switching_ar, c.switching_variance, c.y, c.readings, q->counts, q->numbers,
-                    places(m[0]), m[0].length, places(m[1]), m[1].length, a->whole, a->real);
+                    places(m[0]), m[0].length, places(m[1]), m[1].length, c.rule, a->whole, a->real);
     if (is_call("smooth"))
         msar_smooth(c.k, c.p, c.switching_ar, c.switching_variance, c.y, c.readings, q->counts, q->numbers,
-                    places(m[0]), m[0].length, places(m[1]), m[1].length, places(m[2]), m[2].length, a->whole, a->real);
+                    places(m[0]), m[0].length, places(m[1]), m[1].length, places(m[2]), m[2].length, c.rule, a->whole,
+                    a->real);
     if (is_call("fit"))
         msar_fit(c.k, c.p, c.switching_ar, c.switching_variance, c.y, c.readings, q->counts, q->numbers, places(m[0]),
                  m[0].length, places(m[2]), m[2].length, c.max_iter, c.tol, places(fitted), a->whole, a->real);
@@ -287,7 +297,24 @@ static void show_fit(const struct answer *a, const double *fitted) {
     show_part("var", fitted + 384, c.q.counts[5]);
 }
 
-static void answer_model(void) {
+/* From order one up the two rules give the same answer and leave the same memory: this is what was with the case's rule. */
+static void try_other_rule(const struct answer *was, struct lent left[MOST_LENT]) {
+    static const char *names[MOST_LENT] = {"work memory by the other rule", "filtered table by the other rule",
+                                           "smoothed table by the other rule"};
+    struct lent m[MOST_LENT], fitted = lend(NUMBERS);
+    c.rule = 3 - c.rule;
+    struct answer a = run_model(c.memory, m, fitted);
+    printf("other %zu\n", c.rule);
+    c.rule = 3 - c.rule;
+    if (memcmp(a.whole, was->whole, sizeof a.whole) || !same_numbers(a.real, was->real, MSAR_REAL))
+        broken("answer by the other rule");
+    for (size_t i = 0; i < MOST_LENT; i++)
+        if (!same_numbers(m[i].all, left[i].all, m[i].length + 2 * GUARD)) broken(names[i]);
+    give_back(m);
+    free(fitted.all);
+}
+
+static void answer_model(bool again) {
     struct lent m[MOST_LENT], fitted = lend(NUMBERS);
     size_t need[MOST_LENT];
     needs(need);
@@ -302,6 +329,7 @@ static void answer_model(void) {
         if (takes(1)) show_table("filtered", m[1], need[1]);
         if (takes(2)) show_table("smoothed", m[2], need[2]);
     }
+    if (again && !is_call("fit") && c.p > 0 && (c.rule == 1 || c.rule == 2)) try_other_rule(&a, m);
     give_back(m);
     free(fitted.all);
 }
@@ -363,25 +391,25 @@ static void answer_matches(void) {
     printf("matches %d\n", msar_matches(c.k, c.p, c.switching_ar, c.switching_variance, c.q.counts, c.q.numbers));
 }
 
-static void answer(bool again_short) {
+static void answer(bool again) {
     printf("answer %s\n", c.id);
-    if (takes(0)) answer_model();
+    if (takes(0)) answer_model(again);
     else if (is_call("windows")) answer_windows();
     else if (is_call("check")) answer_check();
     else if (is_call("durations")) answer_labels(msar_durations);
     else if (is_call("shares")) answer_labels(msar_shares);
     else if (is_call("matches")) answer_matches();
-    if (again_short) answer_short();
+    if (again) answer_short();
     puts("end");
 }
 
 int main(int count, char **words) {
-    bool again_short = count > 1 && !strcmp(words[1], "short");
+    bool again = count > 1 && !strcmp(words[1], "again");
     char *line = NULL;
     size_t size = 0;
     while (getline(&line, &size, stdin) > 0) {
         char *name = strtok_r(line, " \n", &rest);
-        if (name && read_line(name)) answer(again_short);
+        if (name && read_line(name)) answer(again);
     }
     free(line);
     free(c.y);

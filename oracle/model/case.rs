@@ -20,6 +20,7 @@ pub struct Case {
     pub order: usize,
     pub ar: Part,
     pub variances: Part,
+    pub rule: usize,
     pub max_iter: usize,
     pub tol: f64,
 }
@@ -65,6 +66,7 @@ fn named(words: &mut Words) -> Case {
         order: 0,
         ar: Part::default(),
         variances: Part::default(),
+        rule: 1,
         max_iter: 0,
         tol: 0.0,
     }
@@ -109,6 +111,7 @@ impl Reader {
                 c.ar = part(&mut words, 112);
             }
             "var" => c.variances = part(&mut words, 16),
+            "rule" => c.rule = whole(&mut words),
             "fit" => {
                 c.max_iter = whole(&mut words);
                 c.tol = number(word(&mut words));

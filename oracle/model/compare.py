@@ -1,8 +1,8 @@
 """Compares answers to the same cases.
 compare.py CASES ORACLE CANDIDATE   every bit and every refusal; 7 is worked out by protocol.py, as the Rust has no lent memory.
-                                    Ends with status 1 where anything differs, or where a promise on lent memory is broken.
-compare.py --gaps ROUTED UNTOUCHED  how far the untouched Rust is from the routed one, as far as the shorter file goes; a gap is
-                                    no failure."""
+                                    Ends with status 1 where anything differs, or where a promise is broken.
+compare.py --gaps ROUTED UNTOUCHED  how far the untouched Rust is from the routed one, in the cases that it was asked, which come
+                                    in the same order; a gap is no failure."""
 import math
 import sys
 from itertools import zip_longest
@@ -31,7 +31,7 @@ def first_difference(found, expected):
 def differences(head, answer, found):
     """Lines that say what of a candidate's answer is wrong."""
     expected = with_memory(answer, head.short())
-    short, broken = found.pop('short', None), found.pop('broken', [])
+    short, other, broken = found.pop('short', None), found.pop('other', None), found.pop('broken', [])
     if ('running' in expected) != ('running' in found):
         yield 'work memory %s' % ('as found' if 'running' in expected else 'cleared')
     for name in sorted((expected.keys() | found.keys()) - {'running'}):
@@ -39,16 +39,19 @@ def differences(head, answer, found):
             yield '%s: %s' % (name, first_difference(found.get(name), expected.get(name)))
     if short is not None and short != list(shortened(head, answer)):
         yield 'one place short: %s, not %s' % (short, list(shortened(head, answer)))
+    if (other is not None) != head.takes_either_rule():
+        yield 'the other rule was%s tried' % ('' if other else ' not')
     for what in broken:
-        yield 'memory: ' + what
+        yield 'broken: ' + what
 
 
 def compare(cases, oracle, candidate):
     heads = read_heads(cases)
-    met, wrong, shorts, fits = 0, 0, 0, 0
+    met, wrong, shorts, others, fits = 0, 0, 0, 0, 0
     for pair in zip_longest(read_answers(oracle), read_answers(candidate), fillvalue=('no answer', {})):
         (ident, answer), (found_id, found) = pair
         shorts += len(found.get('short', []))
+        others += 'other' in found
         said = ['answer to %s' % found_id] if found_id != ident else list(differences(heads[ident], answer, found))
         met += 1
         fits += ident in heads and heads[ident].call == 'fit'
@@ -57,7 +60,8 @@ def compare(cases, oracle, candidate):
             print('%s differs: %s' % (ident, '; '.join(said)))
     if met != len(heads):
         print('%d answers to %d cases' % (met, len(heads)))
-    print('%d cases, %d of them fits, and %d with memory one place short compared, %d differ' % (met, fits, shorts, wrong))
+    print('%d cases, %d of them fits, %d with memory one place short and %d with the other rule compared, %d differ'
+          % (met, fits, shorts, others, wrong))
     return wrong == 0 and met == len(heads)
 
 
@@ -75,9 +79,16 @@ def gap_of(a, b):
     return largest
 
 
+def pairs(routed, untouched):
+    """The two answers to each case that the untouched Rust was asked."""
+    answers = read_answers(routed)
+    for ident, b in read_answers(untouched):
+        yield ident, next(a for name, a in answers if name == ident), b
+
+
 def gaps(routed, untouched):
     largest, other, uneven, same, met = {}, 0, 0, 0, 0
-    for (ident, a), (_, b) in zip(read_answers(routed), read_answers(untouched)):
+    for ident, a, b in pairs(routed, untouched):
         met += 1
         if a == b or (refusal_of(a) and refusal_of(a) == refusal_of(b)):
             same += 1

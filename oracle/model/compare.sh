@@ -45,10 +45,10 @@ python3 "$here/draw.py" calls "$seed" "$count" >"$room/calls"
 python3 "$here/draw.py" fits "$seed" "$fits" | cat "$room/calls" - >"$room/cases"
 "$room/routed/oracle" <"$room/cases" >"$room/oracle.answers" &
 oracle=$!
-"${under[@]}" "$room/candidate" short <"$room/cases" >"$room/candidate.answers" || stop "the candidate stopped"
+"${under[@]}" "$room/candidate" again <"$room/cases" >"$room/candidate.answers" || stop "the candidate stopped"
 wait "$oracle" || stop "the oracle stopped"
-# no fits: a last digit may decide how many passes one makes
-"$room/untouched/oracle" <"$room/calls" >"$room/untouched.answers"
+# no fits: a last digit may decide how many passes one makes; and no rule 2 at order zero, which is not the Rust's
+python3 "$here/own.py" <"$room/calls" | "$room/untouched/oracle" >"$room/untouched.answers"
 
 status=0
 python3 "$here/compare.py" "$room/cases" "$room/oracle.answers" "$room/candidate.answers" || status=1

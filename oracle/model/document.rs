@@ -1,5 +1,5 @@
-//! Document 01's refusals of what a caller hands in, in its order, written from the document and apart from the Rust. Lent
-//! memory (7) is not seen here.
+//! Document 01's refusals of what a caller hands in, and document 02's 29, in their order, written from the documents and apart
+//! from the Rust. Lent memory (7) is not seen here.
 use crate::case::Case;
 
 #[derive(Clone, Copy, Debug)]
@@ -48,6 +48,10 @@ fn series(c: &Case) -> Option<Refusal> {
         return at(5, t);
     }
     at(6, c.y.iter().position(|v| !v.is_finite())?)
+}
+
+fn rule(c: &Case) -> Option<Refusal> {
+    if matches!(c.rule, 1 | 2) { None } else { at(29, 0) }
 }
 
 fn counts(c: &Case) -> Option<Refusal> {
@@ -145,15 +149,19 @@ fn fit(c: &Case) -> Option<Refusal> {
     (!usable).then_some(Refusal { number: 25, place: 0, value })
 }
 
-fn model(c: &Case) -> Option<Refusal> {
-    spec(c).or_else(|| series(c)).or_else(|| params(c)).or_else(|| shape(c))
+fn bound(c: &Case) -> Option<Refusal> {
+    spec(c).or_else(|| series(c))
+}
+
+fn admitted(c: &Case) -> Option<Refusal> {
+    params(c).or_else(|| shape(c))
 }
 
 /// What a call refuses of a case before anything runs.
 pub fn early(c: &Case) -> Option<Refusal> {
     match c.call.as_str() {
-        "loglike" | "filter" | "smooth" => model(c),
-        "fit" => model(c).or_else(|| fit(c)),
+        "loglike" | "filter" | "smooth" => bound(c).or_else(|| rule(c)).or_else(|| admitted(c)),
+        "fit" => bound(c).or_else(|| admitted(c)).or_else(|| fit(c)),
         "windows" => spec(c),
         "check" | "durations" | "shares" => params(c),
         "matches" => None,
@@ -161,11 +169,11 @@ pub fn early(c: &Case) -> Option<Refusal> {
     }
 }
 
-/// Whether the port alone refuses this: the Rust has no 3, 5 and 18, and takes up to 4,096 windows.
+/// Whether the port alone refuses this: the Rust has no 3, 5, 18 and 29, and takes up to 4,096 windows.
 pub fn is_own(r: Refusal, c: &Case) -> bool {
     match r.number {
         2 => windows(c.spec.k_regimes, c.spec.order) <= 4096,
-        number => matches!(number, 3 | 5 | 18),
+        number => matches!(number, 3 | 5 | 18 | 29),
     }
 }
 

@@ -4,6 +4,7 @@ import sys
 
 import fits
 import gen
+from protocol import MODEL_CALLS, RULES
 
 DRAWN = {'calls': ('', gen.cases), 'fits': ('fit-', fits.cases)}
 
@@ -14,4 +15,6 @@ if __name__ == '__main__':
         c.id = '%s%s-%d' % (prefix, c.id, i)
         if c.memory is None:
             gen.lend(r, c)
+        if c.rule is None and c.call in MODEL_CALLS:
+            c.rule = r.choice(RULES)
         sys.stdout.write(c.text())

@@ -5,7 +5,7 @@ import itertools
 import math
 
 import chains
-from protocol import HUGE, MODEL_CALLS, Case
+from protocol import HUGE, MODEL_CALLS, RULES, Case
 
 INF, NAN = float('inf'), float('nan')
 TINY, LARGEST = 5e-324, 1.7976931348623157e308
@@ -316,6 +316,16 @@ def short_memory(r, k, p, call=None):
     return c
 
 
+OTHER_RULES = [0, 3, HUGE]
+
+
+def other_rule(r, k, p):
+    """29; but faults of spec and series and a short memory come first, and it comes before a fault of the parameters."""
+    c = r.choice([benign, at_fault, short_memory])(r, k, p)
+    c.rule = r.choice(OTHER_RULES)
+    return c
+
+
 def other_call(r, k, p):
     """Windows, check, durations, shares, matches."""
     c = benign(r, k, p, r.choice(chains.ALL), p + 1)
@@ -361,20 +371,38 @@ def small_counts():
 
 # ---- all together
 
-FAMILIES = ([benign] * 5 + [any_chain] * 7 + [at_fault] * 10 + [short_memory] * 3 + [other_call] * 4
+FAMILIES = ([benign] * 5 + [any_chain] * 7 + [at_fault] * 10 + [short_memory] * 3 + [other_rule] * 3 + [other_call] * 4
             + [on_the_means, big, negative_shares, order_zero] * 2
             + [any_variance, scaled, outliers, constant, subnormal, unvisited, jump, zero_times_infinity])
 LONG_ONE_IN = 150
 
 
+def each_rule(r):
+    """Each rule at order zero and above from each call, each other rule from each call: alone, with a short memory, with a fault of
+    the parameters."""
+    for call, rule, p in itertools.product(MODEL_CALLS, RULES, (0, 1)):
+        c = benign(r, 3, p)
+        c.call, c.rule = call, rule
+        yield c
+    for call, rule, beside in itertools.product(MODEL_CALLS, OTHER_RULES, (None, 'memory', 'parameters')):
+        c = benign(r, *r.choice(USUAL_PAIRS))
+        c.call, c.rule = call, rule
+        if beside == 'memory':
+            c.memory = tuple(need - 1 for need in c.head().needs())
+        if beside == 'parameters':
+            bad_mean(r, c)
+        yield c
+
+
 def one_of_each(r):
-    """A benign case for each pair, one for each fault alone."""
+    """A benign case for each pair, one for each fault alone, and the rules."""
     for k, p in PAIRS:
         yield benign(r, k, p)
     for fault in FAULTS + [many_readings]:
         c = benign(r, 3, 2)
         fault(r, c)
         yield c
+    yield from each_rule(r)
 
 
 def from_families(r, count):

@@ -1,5 +1,6 @@
 //! Answers cases with the Rust that the library was ported from: cases on standard input, answers on standard output, as
-//! README.md says. It stops where the Rust refuses otherwise than document 01 does.
+//! README.md says. It stops where the Rust refuses otherwise than document 01 does, and the untouched Rust where it is asked for
+//! rule 2 at order zero.
 mod case;
 mod document;
 mod told;
@@ -9,7 +10,7 @@ use document::Refusal;
 use std::fmt::Write as _;
 use std::io::{BufRead, BufWriter, Write};
 use told::Told;
-use tsecon_regime::{met, MarkovSwitchingAr, MsarParams, MsarSpec, RegimeError};
+use tsecon_regime::{met, rule, MarkovSwitchingAr, MsarParams, MsarSpec, RegimeError};
 
 /// One pattern for every NaN.
 fn pattern(x: f64) -> u64 {
@@ -126,6 +127,8 @@ fn refused_running(c: &Case, t: Told) -> String {
 
 fn answer(c: &Case) -> String {
     (met::take(), met::begun());
+    rule::set(c.rule);
+    assert!(rule::HAS_TWO || !rule::differs(c.spec.order), "case {}: rule 2 at order zero", c.id);
     let early = document::early(c);
     if let Some(r) = early {
         if document::is_own(r, c) || (c.call != "windows" && !document::has_rows(c)) {

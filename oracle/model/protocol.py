@@ -1,5 +1,5 @@
-"""Cases and answers as text; README.md has the lines. And what document 01, and document 02 in Q-8, say of lent memory, which the
-Rust does not see."""
+"""Cases and answers as text; README.md has the lines. And what document 01, and document 02 in Q-5 and Q-8, say of lent memory,
+which the Rust does not see."""
 import struct
 from typing import NamedTuple
 
@@ -8,6 +8,7 @@ MODEL_CALLS = ('loglike', 'filter', 'smooth')
 NAMES = MODEL_CALLS + ('fit',)
 LENT = ('work', 'filtered', 'smoothed')
 TAKES = {'loglike': (0,), 'filter': (0, 1), 'smooth': (0, 1, 2), 'fit': (0, 2)}  # which of these a call is lent, in the order tried
+RULES = (1, 2)
 HUGE = 2 ** 64 - 1  # the largest count
 ZERO = '0' * 16
 MOST_REGIMES, MOST_WINDOWS, MOST_READINGS = 16, 256, 4096
@@ -27,7 +28,8 @@ def numbers(values):
 
 
 class Case:
-    """One call. A part's count is its length unless `said` gives another."""
+    """One call. A part's count is its length unless `said` gives another. `memory` and `rule` are drawn at the end where they are
+    None."""
 
     def __init__(self, call, k, p, sar, svar, y, means, trans, ar, var):
         self.id, self.call = '', call
@@ -35,6 +37,7 @@ class Case:
         self.y, self.means, self.trans, self.ar, self.var = y, means, trans, ar, var
         self.blocks, self.order = k if sar else 1, p
         self.memory = None
+        self.rule = None
         self.said = {}
         self.max_iter, self.tol = 0, 0.0
 
@@ -46,7 +49,7 @@ class Case:
         return count, (values + [0.0] * held)[:held]
 
     def head(self):
-        return Head(self.id, self.call, self.k, self.p, len(self.y), self.memory)
+        return Head(self.id, self.call, self.k, self.p, len(self.y), self.memory, self.rule)
 
     def text(self):
         lines = ['case %s %s' % (self.id, self.call),
@@ -57,6 +60,8 @@ class Case:
             count, values = self.part(name)
             shape = '%d %d ' % (self.blocks, self.order) if name == 'ar' else ''
             lines.append('%s %s%d' % (name, shape, count) + numbers(values))
+        if self.call in MODEL_CALLS:
+            lines.append('rule %d' % self.rule)
         if self.call == 'fit':
             lines.append('fit %d %s' % (self.max_iter, bits(self.tol)))
         return '\n'.join(lines) + '\nrun\n'
@@ -70,6 +75,7 @@ class Head(NamedTuple):
     p: int
     readings: int
     memory: tuple
+    rule: int  # None where the call takes none
 
     def needs(self):
         """Lengths needed of work, filtered and smoothed table, where spec and series have any. Work is the call's: loglike and
@@ -82,6 +88,10 @@ class Head(NamedTuple):
         cells = rows * self.k ** (self.p + 1)
         work = cells + MOST_WINDOWS if self.call in ('loglike', 'filter') else 2 * cells
         return work, rows * self.k, rows * self.k
+
+    def takes_either_rule(self):
+        """Whether the other rule has to give the same."""
+        return self.rule in RULES and self.p > 0
 
     def lent(self):
         """Which of the three the call takes."""
@@ -107,7 +117,7 @@ def ran(answer):
 
 
 def with_memory(answer, needed):
-    """What the answer is where memory is too short: 1 to 6 come before 7, all else after it."""
+    """What the answer is where memory is too short: 1 to 6 come before 7, all else after it, 29 directly."""
     if needed is None or 1 <= refusal_of(answer) <= 6:
         return answer
     return {'refusal': '7 %d %s' % (needed, ZERO)}
@@ -125,7 +135,9 @@ def read_heads(lines):
         elif name == 'memory':
             memory = tuple(map(int, rest.split()))
         elif name == 'y':
-            heads[ident] = Head(ident, call, k, p, int(rest.split(None, 1)[0]), memory)
+            heads[ident] = Head(ident, call, k, p, int(rest.split(None, 1)[0]), memory, None)
+        elif name == 'rule':
+            heads[ident] = heads[ident]._replace(rule=int(rest))
     return heads
 
 

@@ -1,4 +1,4 @@
-"""Writes recorded cases for crates/run_replay: record.py ORACLE FOLDER calls|fits .., ORACLE being the routed one.
+"""Writes recorded cases for crates/run_replay: record.py ORACLE FOLDER calls|fits|rules .., ORACLE being the routed one.
 FOLDER/stdin has the cases and FOLDER/stdout the answers, in the lines that README.md and crates/run_replay/src/main.rt name."""
 import itertools
 import random
@@ -9,7 +9,7 @@ from collections import Counter
 import chains
 import fits
 import gen
-from protocol import HUGE, LENT, MODEL_CALLS, NAMES, ZERO, bits, ran, read_answers, refusal_of, with_memory
+from protocol import HUGE, LENT, MODEL_CALLS, NAMES, RULES, ZERO, bits, ran, read_answers, refusal_of, with_memory
 
 SEED = 1989
 PLACES = 25600  # what the program has of each memory
@@ -160,17 +160,82 @@ def fits_short_of_memory(r):
             yield c
 
 
+# ---- the rules
+
+FLAGS = list(itertools.product((False, True), repeat=2))
+
+
+def by_rule(call, rule, c):
+    c.call, c.rule = call, rule
+    return c
+
+
+def rules_at_zero(r):
+    """Rule 2 at order 0: some with every call and every flag; longer ones; every number of regimes."""
+    for k, call, flags in itertools.product((2, 3, 16), MODEL_CALLS, FLAGS):
+        yield by_rule(call, 2, gen.with_flags(r, k, 0, *flags))
+    for k, call in itertools.product((2, 5), MODEL_CALLS):
+        yield by_rule(call, 2, gen.benign(r, k, 0, chains.sticky, READINGS))
+    for k in range(2, 17):
+        yield by_rule('smooth', 2, gen.benign(r, k, 0, length=1 + r.randrange(12)))
+
+
+def rules_nasty(r):
+    """Rule 2 at order 0: each family that has this order, each kind of chain; 21, 22 and 23."""
+    calls = itertools.cycle(MODEL_CALLS)
+    families = [gen.any_variance, gen.scaled, gen.outliers, gen.on_the_means, gen.constant, gen.subnormal, gen.big, gen.unvisited,
+                gen.order_zero]
+    for family in families:
+        yield by_rule(next(calls), 2, shortened(family(r, r.choice([2, 3, 4]), 0)))
+    for chain in chains.ALL:
+        yield by_rule(next(calls), 2, shortened(gen.benign(r, r.choice([2, 3, 4]), 0, chain)))
+    for call in MODEL_CALLS:
+        yield by_rule(call, 2, gen.benign(r, 2, 0, chains.identity, 6))
+        c = gen.benign(r, 2, 0, chains.dyadic, 6)
+        c.trans = chains.flat([[1.000000005, 0.0], [0.5, 0.5]])
+        yield by_rule(call, 2, c)
+        c = gen.benign(r, 2, 0, chains.dyadic, 6)
+        c.y[3] = 1e200
+        yield by_rule(call, 2, c)
+
+
+def rules_other(r):
+    """29 for each other rule from each call, at order 0 and above; 7 before it, for each memory; each fault beside it."""
+    for p, call, rule in itertools.product((0, 1), MODEL_CALLS, gen.OTHER_RULES):
+        yield by_rule(call, rule, gen.benign(r, 2, p, length=5))
+    for takes, call in enumerate(MODEL_CALLS, 1):
+        for i in range(takes):
+            c = by_rule(call, gen.OTHER_RULES[i], gen.benign(r, 2, 1, length=5))
+            c.memory = tuple(n - 1 if j == i else n for j, n in enumerate(c.head().needs()))
+            yield c
+    for i, fault in enumerate(gen.FAULTS):
+        c = gen.benign(r, 3, 1, length=6)
+        fault(r, c)
+        yield by_rule(MODEL_CALLS[i % 3], gen.OTHER_RULES[i // 3 % 3], c)
+
+
 CALLS = (plain, nasty, faulty, refused_running, short_of_memory)
 FITS = (fits_plain, fits_known, fits_nasty, fits_faulty, fits_short_of_memory, fits_at_later_columns)
+RULED = (rules_at_zero, rules_nasty, rules_other)
+
+
+def rule_of(c, next_rule):
+    """0 for a fit, which takes none; 1 at order 0, where this is the Rust's; above it 1 and 2 by turns."""
+    if c.call == 'fit':
+        return 0
+    return next_rule if c.p > 0 else 1
 
 
 def cases(makers):
     r = random.Random(SEED)
+    rules = itertools.cycle(RULES)
     for make in makers:
         for i, c in enumerate(make(r)):
             c.id = '%s-%d' % (make.__name__, i)
             if c.memory is None:
                 gen.lend(r, c)
+            if c.rule is None:
+                c.rule = rule_of(c, next(rules))
             assert max(c.memory) <= PLACES and len(c.y) <= 4097
             yield c
 
@@ -181,8 +246,8 @@ def given(c):
     """A case as the program reads it."""
     parts = {name: c.part(name) for name in ('means', 'trans', 'ar', 'var')}
     wholes = [NAMES.index(c.call) + 1, c.k, c.p, c.sar, c.svar, *c.memory, len(c.y), parts['means'][0], parts['trans'][0],
-              c.blocks, c.order, parts['ar'][0], parts['var'][0]]
-    assert len(wholes) == 15 and all(0 <= n <= HUGE for n in wholes)
+              c.blocks, c.order, parts['ar'][0], parts['var'][0], c.rule]
+    assert len(wholes) == 16 and all(0 <= n <= HUGE for n in wholes)
     numbers = c.y + parts['trans'][1] + parts['means'][1] + parts['ar'][1] + parts['var'][1]
     of_fit = ['%016x' % c.max_iter, bits(c.tol)] if c.call == 'fit' else []
     return ['%016x' % n for n in wholes] + [bits(x) for x in numbers] + of_fit
@@ -215,7 +280,7 @@ def write(path, lines):
 
 if __name__ == '__main__':
     oracle, folder = sys.argv[1:3]
-    all_cases = [c for what in sys.argv[3:] for c in cases({'calls': CALLS, 'fits': FITS}[what])]
+    all_cases = [c for what in sys.argv[3:] for c in cases({'calls': CALLS, 'fits': FITS, 'rules': RULED}[what])]
     said = subprocess.run([oracle], input=''.join(c.text() for c in all_cases), capture_output=True, text=True, check=True).stdout
     stdin, stdout, refusals = [], [], Counter()
     for c, (ident, answer) in zip(all_cases, read_answers(said.splitlines()), strict=True):

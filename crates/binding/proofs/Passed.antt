@@ -14,7 +14,7 @@ use Rattle.refusal.specs.declared.Check.{Check}
 use Rattle.refusal.specs.declared.Check.the-variants.{Passed, Failed}
 use Rattle.refusal.specs.declared.Refusal.{Refusal}
 use Rattle.refusal.specs.declared.Refusal.the-variants.{FewRegimes, ManyWindows, ShortSeries}
-use Rattle.refusal.proofs.Checks.{both, untrue}
+use Rattle.refusal.proofs.Checks.{both, untrue, before-assoc}
 use Rattle.spec.specs.Spec.{specCheck, counted}
 use Rattle.spec.specs.declared.MsarSpec.{MsarSpec}
 use Rattle.spec.specs.declared.Windows.the-variants.{Count, Refused}
@@ -22,7 +22,7 @@ use Rattle.window.specs.Shape.{Shape}
 use Rattle.params.specs.declared.MsarParams.{MsarParams}
 use Rattle.params.specs.Parameters.{k, p, switches, matchesSpec}
 use Rattle.params.specs.Checks.{parameterCheck}
-use Rattle.binding.specs.Binding.{lengthCheck, readingsCheck, boundCheck, boundAfter, boundOf, paramsCheck, admittedCheck}
+use Rattle.binding.specs.Binding.{lengthCheck, readingsCheck, boundCheck, boundAfter, boundOf, ruleCheck, paramsCheck, admittedCheck}
 use Rattle.binding.specs.declared.Bound.{Bound}
 
 -- ---- the window count
@@ -161,3 +161,10 @@ module _ (S : MsarSpec) (y : List Float) where
     unfolding admittedCheck
     admits q own {found} {given} f g d =
         d ∙ ap (λ (x : Check). x before (found before given)) check-is ∙ own-later (boundCheck S y) (λ p. rw (f p, g))
+
+    -- the same where the rule is checked too, behind the call's own
+    pub admits-by : (rule : ℕ) (q : MsarParams) (own : Check) {found given r : Check} → (boundCheck S y ≡ Passed → found ≡ own)
+        → given ≡ (ruleCheck rule before paramsCheck S q) → r ≡ (b .check before (found before given)) → r ≡ admittedCheck S y (own before ruleCheck rule) q
+    admits-by rule q own {found} {given} f g d =
+        admits q (own before ruleCheck rule) (λ p. ap (λ (x : Check). x before ruleCheck rule) (f p)) refl
+        (d ∙ ap (λ (x : Check). b .check before x) (ap (λ (x : Check). found before x) g ∙ sym (before-assoc found (ruleCheck rule) (paramsCheck S q))))

@@ -1,18 +1,19 @@
--- The checks of what a caller hands in: a series of T readings under a spec, the lengths of the memory that is lent, and the parameters under the spec.
+-- The checks of what a caller hands in: a series of T readings under a spec, the lengths of the memory that is lent, the rule number, and the
+-- parameters under the spec.
 -- Which of these lengths a call asks for stands with the call.
--- After document 01, "Refusals by number", 1 to 7 and 20, "Order for a model call", and "Bounds set by the port"; of work memory document 02, Q-8.
+-- After document 01, "Refusals by number", 1 to 7 and 20, "Order for a model call", and "Bounds set by the port"; of work memory document 02, Q-8, of the rule Q-5.
 use Prim.Native.Nat.{ℕ, suc, _+_, _-_, _*_, _^_}
-use mathlib.Core.Bool.{not}
+use mathlib.Core.Bool.{not, _||_}
 use mathlib.Core.List.{List}
 use lib.ListN.{length}
 use lib.Ieee.{Float}
 use lib.Ieee.Scale.{finite}
-use Rattle.number.specs.Number.{_<?_, _≤?_}
+use Rattle.number.specs.Number.{_<?_, _≤?_, _=?_}
 use Rattle.number.specs.Table.{_!_}
 use Rattle.refusal.specs.Checks.{_before_, _when_, each}
 use Rattle.refusal.specs.declared.Check.{Check}
 use Rattle.refusal.specs.declared.Check.the-variants.{Passed, Failed}
-use Rattle.refusal.specs.declared.Refusal.the-variants.{ShortSeries, LongSeries, Reading, Memory, Shape}
+use Rattle.refusal.specs.declared.Refusal.the-variants.{ShortSeries, LongSeries, Reading, Memory, OtherRule, Shape}
 use Rattle.spec.specs.Spec.{specCheck}
 use Rattle.spec.specs.declared.MsarSpec.{MsarSpec}
 use Rattle.params.specs.declared.MsarParams.{MsarParams}
@@ -70,6 +71,12 @@ tableNeed S y = (length y - S .order) * S .«k_regimes»
 -- 7 where less is lent than needed
 abbrev pub memoryCheck : ℕ → ℕ → Check
 memoryCheck lent needed = Memory needed when lent <? needed
+
+-- ---- the rule
+
+-- 29 where its number is neither 1 nor 2
+unfoldable pub ruleCheck : ℕ → Check
+ruleCheck number = OtherRule when not (number =? 1 || number =? 2)
 
 -- ---- the parameters on themselves, then against the spec
 

@@ -1,5 +1,5 @@
-// What a caller hands in, checked: the series under its spec, memory, the parameters under the spec. A call puts its own
-// checks between the first and the last.
+// What a caller hands in, checked: the series under its spec, memory, the rule, the parameters under the spec. A call puts
+// its own checks between the first and the last.
 ghost use mathlib.Core.Path.{_≡_};
 ghost use mathlib.Core.Bool.{not};
 ghost use mathlib.Core.List.{List};
@@ -11,7 +11,7 @@ ghost use Rattle.refusal.specs.declared.Check.the-variants.{Failed};
 ghost use Rattle.refusal.specs.declared.Refusal.the-variants.{Shape};
 ghost use Rattle.spec.specs.declared.MsarSpec.{MsarSpec};
 ghost use Rattle.params.specs.Parameters.{matchesSpec};
-ghost use Rattle.binding.specs.Binding.{readingsCheck, lengthCheck, boundAfter, boundOf, memoryCheck, paramsCheck};
+ghost use Rattle.binding.specs.Binding.{readingsCheck, lengthCheck, boundAfter, boundOf, memoryCheck, ruleCheck, paramsCheck};
 use number::Test;
 use params::MsarParams;
 use refusal::Check;
@@ -118,6 +118,25 @@ pub fn memory(lent: usize, needed: usize) -> Check
         return Check::Failed(Refusal::Memory(needed));
     }
     Check::Passed
+}
+
+// 29.
+fn rule_check(number: usize) -> Check
+    ensures { λ r. ⌜ r ≡ ruleCheck number ⌝ }
+{
+    if (number == 1) | (number == 2) {
+        return Check::Passed;
+    }
+    Check::Failed(Refusal::OtherRule)
+}
+
+// 29, then the checks of the parameters.
+pub fn asked(number: usize, s: MsarSpec, q: MsarParams) -> Check
+    ensures { λ r. ⌜ r ≡ (ruleCheck number before paramsCheck s q) ⌝ }
+{
+    let rule = rule_check(number);
+    let given = parameters(s, q);
+    refusal::first_of(rule, given)
 }
 
 // The parameter checks, then 20.

@@ -33,10 +33,11 @@ pub extern "C" fn msar_loglike(
     counts: &[usize; 6],
     numbers: &[f64; 400],
     work: &mut [f64],
+    rule: usize,
     whole: &mut [usize; 4],
     real: &mut [f64; 2],
 )
-    ensures { λ _. ⌜ record { whole = now (whole .exit); real = now (real .exit); work = now (work .exit); filtered = []; smoothed = [] } ≡ left (loglikeCall (specOf k order «switching_ar» «switching_variance») (now (series .entry)) (paramsOf (now (counts .entry)) (now (numbers .entry))) (now (work .entry))) ⌝ }
+    ensures { λ _. ⌜ record { whole = now (whole .exit); real = now (real .exit); work = now (work .exit); filtered = []; smoothed = [] } ≡ left (loglikeCall (specOf k order «switching_ar» «switching_variance») (now (series .entry)) (paramsOf (now (counts .entry)) (now (numbers .entry))) rule (now (work .entry))) ⌝ }
 {
     let s = MsarSpec {
         k_regimes: k,
@@ -45,7 +46,7 @@ pub extern "C" fn msar_loglike(
         switching_variance,
     };
     let q = given::params_of(counts, numbers);
-    let answer = calls::loglike(s, series, q, work);
+    let answer = calls::loglike(s, series, q, rule, work);
     let check = answer.check;
     told::spell(check, 0, answer.loglik, whole, real);
 }
@@ -62,10 +63,11 @@ pub extern "C" fn msar_filter(
     numbers: &[f64; 400],
     work: &mut [f64],
     filtered: &mut [f64],
+    rule: usize,
     whole: &mut [usize; 4],
     real: &mut [f64; 2],
 )
-    ensures { λ _. ⌜ record { whole = now (whole .exit); real = now (real .exit); work = now (work .exit); filtered = now (filtered .exit); smoothed = [] } ≡ left (filterCall (specOf k order «switching_ar» «switching_variance») (now (series .entry)) (paramsOf (now (counts .entry)) (now (numbers .entry))) (now (work .entry)) (now (filtered .entry))) ⌝ }
+    ensures { λ _. ⌜ record { whole = now (whole .exit); real = now (real .exit); work = now (work .exit); filtered = now (filtered .exit); smoothed = [] } ≡ left (filterCall (specOf k order «switching_ar» «switching_variance») (now (series .entry)) (paramsOf (now (counts .entry)) (now (numbers .entry))) rule (now (work .entry)) (now (filtered .entry))) ⌝ }
 {
     let s = MsarSpec {
         k_regimes: k,
@@ -74,7 +76,7 @@ pub extern "C" fn msar_filter(
         switching_variance,
     };
     let q = given::params_of(counts, numbers);
-    let answer = calls::filter(s, series, q, work, filtered);
+    let answer = calls::filter(s, series, q, rule, work, filtered);
     let check = answer.check;
     told::spell(check, 0, answer.loglik, whole, real);
 }
@@ -92,10 +94,11 @@ pub extern "C" fn msar_smooth(
     work: &mut [f64],
     filtered: &mut [f64],
     smoothed: &mut [f64],
+    rule: usize,
     whole: &mut [usize; 4],
     real: &mut [f64; 2],
 )
-    ensures { λ _. ⌜ record { whole = now (whole .exit); real = now (real .exit); work = now (work .exit); filtered = now (filtered .exit); smoothed = now (smoothed .exit) } ≡ left (smoothCall (specOf k order «switching_ar» «switching_variance») (now (series .entry)) (paramsOf (now (counts .entry)) (now (numbers .entry))) (now (work .entry)) (now (filtered .entry)) (now (smoothed .entry))) ⌝ }
+    ensures { λ _. ⌜ record { whole = now (whole .exit); real = now (real .exit); work = now (work .exit); filtered = now (filtered .exit); smoothed = now (smoothed .exit) } ≡ left (smoothCall (specOf k order «switching_ar» «switching_variance») (now (series .entry)) (paramsOf (now (counts .entry)) (now (numbers .entry))) rule (now (work .entry)) (now (filtered .entry)) (now (smoothed .entry))) ⌝ }
 {
     let s = MsarSpec {
         k_regimes: k,
@@ -104,7 +107,7 @@ pub extern "C" fn msar_smooth(
         switching_variance,
     };
     let q = given::params_of(counts, numbers);
-    let answer = calls::smooth(s, series, q, work, filtered, smoothed);
+    let answer = calls::smooth(s, series, q, rule, work, filtered, smoothed);
     let check = answer.check;
     told::spell(check, 0, answer.loglik, whole, real);
 }

@@ -9,7 +9,7 @@ use lib.Ieee.{Float}
 use Rattle.refusal.specs.Checks.{_before_}
 use Rattle.refusal.specs.declared.Check.{Check}
 use Rattle.refusal.specs.declared.Check.the-variants.{Passed, Failed}
-use Rattle.refusal.proofs.Checks.{both, untrue}
+use Rattle.refusal.proofs.Checks.{both, untrue, before-assoc}
 use Rattle.spec.specs.declared.MsarSpec.{MsarSpec}
 use Rattle.window.specs.Shape.{Shape}
 use Rattle.params.specs.declared.MsarParams.{MsarParams}
@@ -22,10 +22,6 @@ use Rattle.binding.proofs.Passed.{fits, same-shape, bound-counts, rows-are, win
 -- memory that is lent and long enough
 pub long-enough : (lent needed : ℕ) → memoryCheck lent needed ≡ Passed → needed ≤ lent
 long-enough lent needed e = ltb-false _ _ (untrue _ _ e)
-
-before-assoc : (a b c : Check) → ((a before b) before c) ≡ (a before b before c)
-before-assoc Passed b c = refl
-before-assoc (Failed r) b c = refl
 
 module _ (S : MsarSpec) (y : List Float) {b : Bound} (e : b ≡ boundOf S y) where
   -- ---- what the call finds for its memory is what the definition asks, where the series passed

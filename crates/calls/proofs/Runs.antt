@@ -21,6 +21,7 @@ use Rattle.rows.specs.Steps.{labelSumAt}
 use Rattle.rows.proofs.Rows.{tabulated}
 use Rattle.stationary.specs.Stationary.{startShares}
 use Rattle.stationary.specs.declared.Shares.{Shares}
+use Rattle.prediction.specs.declared.Rule.{Rule}
 use Rattle.filter.specs.Filter.{predictedRow, filteredRow, rowCount, answerAfter, filterAnswer}
 use Rattle.filter.specs.Steps.{Held}
 use Rattle.filter.specs.declared.Answer.{Answer}
@@ -40,13 +41,13 @@ all-cleared u need found ran d e h = e ∙ fillAt-over (λ _. zero⁺) need ran 
 
 -- ---- the start shares, then the filter from them
 
-module _ (q : MsarParams) (y : List Float) {s : Shares} (shares : s ≡ startShares q) where
-  pub run-answer : {a : Answer} → a ≡ filterAnswer q y s → a ≡ runAnswer q y
-  unfolding runAnswer runCheck runLoglik filterAnswer
-  run-answer e = e ∙ ap (filterAnswer q y) shares
+pub values-are : (q : MsarParams) {s : Shares} → s ≡ startShares q → s .values ≡ startShares q .values
+values-are q shares = ap (λ (x : Shares). x .values) shares
 
-  pub values-are : s .values ≡ startShares q .values
-  values-are = ap (λ (x : Shares). x .values) shares
+module _ (rule : Rule) (q : MsarParams) (y : List Float) {s : Shares} (shares : s ≡ startShares q) where
+  pub run-answer : {a : Answer} → a ≡ filterAnswer rule q y s → a ≡ runAnswer rule q y
+  unfolding runAnswer runCheck runLoglik filterAnswer
+  run-answer e = e ∙ ap (filterAnswer rule q y) shares
 
 -- ---- whether the run was refused
 
@@ -54,17 +55,17 @@ answer-says : (c : Check) (loglik : Float) → answerAfter c loglik .check ≡ c
 answer-says Passed loglik = refl
 answer-says (Failed r) loglik = refl
 
-module _ (q : MsarParams) (y : List Float) {a : Answer} (answer : a ≡ runAnswer q y) {c : Check} where
-  pub run-says : a .check ≡ c → runCheck q y ≡ c
+module _ (rule : Rule) (q : MsarParams) (y : List Float) {a : Answer} (answer : a ≡ runAnswer rule q y) {c : Check} where
+  pub run-says : a .check ≡ c → runCheck rule q y ≡ c
   unfolding runAnswer
-  run-says d = sym (answer-says (runCheck q y) (runLoglik q y)) ∙ sym (ap (λ (x : Answer). x .check) answer) ∙ d
+  run-says d = sym (answer-says (runCheck rule q y) (runLoglik rule q y)) ∙ sym (ap (λ (x : Answer). x .check) answer) ∙ d
 
-module _ (q : MsarParams) (y : List Float) {r : Refusal} (refused : runCheck q y ≡ Failed r) (found : List Float) where
-  pub filtered-as-found : found ≡ filteredTable q y found
+module _ (rule : Rule) (q : MsarParams) (y : List Float) {r : Refusal} (refused : runCheck rule q y ≡ Failed r) (found : List Float) where
+  pub filtered-as-found : found ≡ filteredTable rule q y found
   unfolding filteredTable
   filtered-as-found = rw refused
 
-  pub smoothed-as-found : found ≡ smoothedTable q y found
+  pub smoothed-as-found : found ≡ smoothedTable rule q y found
   unfolding smoothedTable
   smoothed-as-found = rw refused
 
@@ -79,38 +80,38 @@ module _ (q : MsarParams) (m power n : ℕ) (pos : 0 < k q) (windows : m ≡ win
       ∙ ap (λ (x : ℕ). fillAt 0 (labelSumAt (k q) x m work) (n * k q) found) power-is
       ∙ fillAt-ext 0 _ (n * k q) found (resultAt (k q) (p q) rows) (tabulated (k q) (p q) pos m work rows n windows stand)
 
-  module _ (y shares work : List Float) {kept : ℕ} (held : Held q y shares n m kept n work) where
+  module _ (rule : Rule) (y shares work : List Float) {kept : ℕ} (held : Held rule q y shares n m kept n work) where
     pub smoothed-tabled : 2 * n ≤ kept → (after found : List Float) {table : List Float} → SmoothedRows q n work after
-        → table ≡ fillAt 0 (labelSumAt (k q) power m after) (n * k q) found → table ≡ fillAt 0 (resultAt (k q) (p q) (smoothedFrom q y shares n)) (n * k q) found
+        → table ≡ fillAt 0 (labelSumAt (k q) power m after) (n * k q) found → table ≡ fillAt 0 (resultAt (k q) (p q) (smoothedFrom rule q y shares n)) (n * k q) found
     smoothed-tabled all after found s e =
-        rows-tabled after found (smoothedFrom q y shares n)
-        (λ i h. subst (λ (x : ℕ). Same x (drop (filteredFrom x i) after) (smoothedFrom q y shares n i)) (sym windows)
-        (s .rows (predictedRow q y shares) (filteredRow q y shares)
-        (subst (λ (x : ℕ). (j : ℕ) → j < n → Same x (drop (predictedFrom n x j) work) (predictedRow q y shares j)) windows (λ j h. held .predicted j h (omega arith)))
-        (subst (λ (x : ℕ). (j : ℕ) → j < n → Same x (drop (filteredFrom x j) work) (filteredRow q y shares j)) windows (λ j h. held .filtered j h (omega arith)))
+        rows-tabled after found (smoothedFrom rule q y shares n)
+        (λ i h. subst (λ (x : ℕ). Same x (drop (filteredFrom x i) after) (smoothedFrom rule q y shares n i)) (sym windows)
+        (s .rows (predictedRow rule q y shares) (filteredRow rule q y shares)
+        (subst (λ (x : ℕ). (j : ℕ) → j < n → Same x (drop (predictedFrom n x j) work) (predictedRow rule q y shares j)) windows (λ j h. held .predicted j h (omega arith)))
+        (subst (λ (x : ℕ). (j : ℕ) → j < n → Same x (drop (filteredFrom x j) work) (filteredRow rule q y shares j)) windows (λ j h. held .filtered j h (omega arith)))
         i h))
         e
 
     -- of a run that was not refused
-    module _ (rows-are : p q + n ≡ length y) (passed : runCheck q y ≡ Passed) (start : shares ≡ startShares q .values) where
+    module _ (rows-are : p q + n ≡ length y) (passed : runCheck rule q y ≡ Passed) (start : shares ≡ startShares q .values) where
       counted : n ≡ rowCount q y
       counted = omega arith
 
-      pub filtered-is : n ≤ kept → (found : List Float) {table : List Float} → table ≡ fillAt 0 (labelSumAt (k q) power m work) (n * k q) found → table ≡ filteredTable q y found
+      pub filtered-is : n ≤ kept → (found : List Float) {table : List Float} → table ≡ fillAt 0 (labelSumAt (k q) power m work) (n * k q) found → table ≡ filteredTable rule q y found
       unfolding filteredTable
       filtered-is all found e =
           rw passed
-          (rows-tabled work found (filteredRow q y shares) (λ j h. held .filtered j h (omega arith)) e
-          ∙ ap (λ (x : ℕ). fillAt 0 (resultAt (k q) (p q) (filteredRow q y shares)) (x * k q) found) counted
-          ∙ ap (λ (x : List Float). tableOf q y (filteredRow q y x) found) start)
+          (rows-tabled work found (filteredRow rule q y shares) (λ j h. held .filtered j h (omega arith)) e
+          ∙ ap (λ (x : ℕ). fillAt 0 (resultAt (k q) (p q) (filteredRow rule q y shares)) (x * k q) found) counted
+          ∙ ap (λ (x : List Float). tableOf q y (filteredRow rule q y x) found) start)
 
-      pub smoothed-is : (found : List Float) {table : List Float} → table ≡ fillAt 0 (resultAt (k q) (p q) (smoothedFrom q y shares n)) (n * k q) found → table ≡ smoothedTable q y found
+      pub smoothed-is : (found : List Float) {table : List Float} → table ≡ fillAt 0 (resultAt (k q) (p q) (smoothedFrom rule q y shares n)) (n * k q) found → table ≡ smoothedTable rule q y found
       unfolding smoothedTable
       smoothed-is found e =
           rw passed
           (e
-          ∙ ap (λ (x : ℕ). fillAt 0 (resultAt (k q) (p q) (smoothedFrom q y shares x)) (x * k q) found) counted
-          ∙ ap (λ (x : List Float). tableOf q y (smoothedFrom q y x (rowCount q y)) found) start)
+          ∙ ap (λ (x : ℕ). fillAt 0 (resultAt (k q) (p q) (smoothedFrom rule q y shares x)) (x * k q) found) counted
+          ∙ ap (λ (x : List Float). tableOf q y (smoothedFrom rule q y x (rowCount q y)) found) start)
 
 -- k^p windows for each label now
 pub windows-split : (k p : ℕ) {m power : ℕ} → m ≡ k ^ suc p → power ≡ k ^ p → power * k ≡ m

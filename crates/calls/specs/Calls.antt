@@ -1,5 +1,5 @@
 -- The calls: for every input the answer, and all lent memory at exit as a function of what was lent.
--- After document 01, "Refusals by number" and "How much a contract says", and of work memory document 02, Q-8.
+-- After document 01, "Refusals by number" and "How much a contract says", of work memory document 02, Q-8, of the rule Q-5.
 use Prim.Native.Nat.{ℕ, _-_, _*_}
 use mathlib.Core.List.{List, []}
 use lib.ListN.{length}
@@ -13,23 +13,25 @@ use Rattle.spec.specs.declared.MsarSpec.{MsarSpec}
 use Rattle.params.specs.declared.MsarParams.{MsarParams}
 use Rattle.params.specs.Parameters.{k, p}
 use Rattle.stationary.specs.Stationary.{startShares}
-use Rattle.binding.specs.Binding.{admittedCheck, memoryCheck, filterNeed, smoothNeed, tableNeed}
+use Rattle.binding.specs.Binding.{admittedCheck, memoryCheck, ruleCheck, filterNeed, smoothNeed, tableNeed}
 use Rattle.rows.specs.Rows.{resultAt}
+use Rattle.prediction.specs.Prediction.{ruleOf}
+use Rattle.prediction.specs.declared.Rule.{Rule}
 use Rattle.filter.specs.Filter.{predictedRow, filteredRow, rowCount, filterCheck, loglikOf, answerAfter}
 use Rattle.filter.specs.declared.Answer.{Answer}
 use Rattle.smoother.specs.Smoother.{smoothedRow}
 
--- ---- a run: the start shares, then the filter from them
+-- ---- a run: the start shares, then the filter from them, by the rule
 
 -- what a run may refuse with: 21 or 22 of the shares, then 23
-unfoldable pub runCheck : MsarParams → List Float → Check
-runCheck q y = let start = startShares q in start .check before filterCheck q y (start .values)
+unfoldable pub runCheck : Rule → MsarParams → List Float → Check
+runCheck rule q y = let start = startShares q in start .check before filterCheck rule q y (start .values)
 
-unfoldable pub runLoglik : MsarParams → List Float → Float
-runLoglik q y = loglikOf q y (startShares q .values)
+unfoldable pub runLoglik : Rule → MsarParams → List Float → Float
+runLoglik rule q y = loglikOf rule q y (startShares q .values)
 
-unfoldable pub runAnswer : MsarParams → List Float → Answer
-runAnswer q y = answerAfter (runCheck q y) (runLoglik q y)
+unfoldable pub runAnswer : Rule → MsarParams → List Float → Answer
+runAnswer rule q y = answerAfter (runCheck rule q y) (runLoglik rule q y)
 
 -- ---- what it leaves in memory
 
@@ -46,15 +48,15 @@ abbrev pub written : Check → List Float → List Float → List Float
 written Passed table found = table
 written (Failed r) table found = found
 
-unfoldable pub filteredTable : MsarParams → List Float → List Float → List Float
-filteredTable q y found = written (runCheck q y) (tableOf q y (filteredRow q y (startShares q .values)) found) found
+unfoldable pub filteredTable : Rule → MsarParams → List Float → List Float → List Float
+filteredTable rule q y found = written (runCheck rule q y) (tableOf q y (filteredRow rule q y (startShares q .values)) found) found
 
 -- row i of n is followed by n - 1 - i rows
-abbrev pub smoothedFrom : MsarParams → List Float → List Float → ℕ → ℕ → List Float
-smoothedFrom q y shares n i = smoothedRow q (predictedRow q y shares) (filteredRow q y shares) (n - 1 - i) i
+abbrev pub smoothedFrom : Rule → MsarParams → List Float → List Float → ℕ → ℕ → List Float
+smoothedFrom rule q y shares n i = smoothedRow q (predictedRow rule q y shares) (filteredRow rule q y shares) (n - 1 - i) i
 
-unfoldable pub smoothedTable : MsarParams → List Float → List Float → List Float
-smoothedTable q y found = written (runCheck q y) (tableOf q y (smoothedFrom q y (startShares q .values) (rowCount q y)) found) found
+unfoldable pub smoothedTable : Rule → MsarParams → List Float → List Float → List Float
+smoothedTable rule q y found = written (runCheck rule q y) (tableOf q y (smoothedFrom rule q y (startShares q .values) (rowCount q y)) found) found
 
 -- ---- the outcome of a call. A call that takes no such table is lent the empty one
 
@@ -69,29 +71,42 @@ abbrev pub called : Check → List Float → List Float → List Float → Outco
 called (Failed r) work filtered smoothed run = record { answer = answerAfter (Failed r) zero⁺; work = work; filtered = filtered; smoothed = smoothed }
 called Passed work filtered smoothed run = run
 
-module _ (S : MsarSpec) (y : List Float) (q : MsarParams) (work : List Float) where
+module _ (S : MsarSpec) (y : List Float) (q : MsarParams) (rule : ℕ) (work : List Float) where
+  -- 7, in the order work, filtered table, smoothed table
+  abbrev pub loglikeMemory : Check
+  loglikeMemory = memoryCheck (length work) (filterNeed S y)
+
+  abbrev pub filterMemory : List Float → Check
+  filterMemory filtered = memoryCheck (length work) (filterNeed S y) before memoryCheck (length filtered) (tableNeed S y)
+
+  abbrev pub smoothMemory : List Float → List Float → Check
+  smoothMemory filtered smoothed =
+      memoryCheck (length work) (smoothNeed S y)
+      before memoryCheck (length filtered) (tableNeed S y)
+      before memoryCheck (length smoothed) (tableNeed S y)
+
+  -- behind 7 stands 29
   unfoldable pub loglikeCall : Outcome
   loglikeCall =
-      called (admittedCheck S y (memoryCheck (length work) (filterNeed S y)) q) work [] []
-      (record { answer = runAnswer q y; work = cleared (filterNeed S y) work; filtered = []; smoothed = [] })
+      called (admittedCheck S y (loglikeMemory before ruleCheck rule) q) work [] []
+      (record { answer = runAnswer (ruleOf rule) q y; work = cleared (filterNeed S y) work; filtered = []; smoothed = [] })
 
   unfoldable pub filterCall : List Float → Outcome
   filterCall filtered =
-      called
-      (admittedCheck S y
-      (memoryCheck (length work) (filterNeed S y)
-      before memoryCheck (length filtered) (tableNeed S y))
-      q)
-      work filtered []
-      (record { answer = runAnswer q y; work = cleared (filterNeed S y) work; filtered = filteredTable q y filtered; smoothed = [] })
+      called (admittedCheck S y (filterMemory filtered before ruleCheck rule) q) work filtered []
+      (record {
+        answer = runAnswer (ruleOf rule) q y;
+        work = cleared (filterNeed S y) work;
+        filtered = filteredTable (ruleOf rule) q y filtered;
+        smoothed = [];
+      })
 
   unfoldable pub smoothCall : List Float → List Float → Outcome
   smoothCall filtered smoothed =
-      called
-      (admittedCheck S y
-      (memoryCheck (length work) (smoothNeed S y)
-      before memoryCheck (length filtered) (tableNeed S y)
-      before memoryCheck (length smoothed) (tableNeed S y))
-      q)
-      work filtered smoothed
-      (record { answer = runAnswer q y; work = cleared (smoothNeed S y) work; filtered = filteredTable q y filtered; smoothed = smoothedTable q y smoothed })
+      called (admittedCheck S y (smoothMemory filtered smoothed before ruleCheck rule) q) work filtered smoothed
+      (record {
+        answer = runAnswer (ruleOf rule) q y;
+        work = cleared (smoothNeed S y) work;
+        filtered = filteredTable (ruleOf rule) q y filtered;
+        smoothed = smoothedTable (ruleOf rule) q y smoothed;
+      })

@@ -9,12 +9,15 @@ ghost use Rattle.window.specs.Shape.{Shape};
 ghost use Rattle.params.specs.Parameters.{k, p};
 ghost use Rattle.rows.specs.Rows.{windowsOf, resultAt};
 ghost use Rattle.refusal.specs.Checks.{_before_};
+ghost use Rattle.prediction.specs.declared.Rule.{Rule};
 ghost use Rattle.filter.specs.Steps.{Held};
 ghost use Rattle.binding.specs.Binding.{memoryCheck};
 ghost use Rattle.calls.specs.Calls.{runAnswer, smoothedFrom, cleared, filteredTable, smoothedTable, Outcome, loglikeCall, filterCall, smoothCall};
 use binding::Bound;
 use filter::Answer;
 use params::MsarParams;
+use prediction::Rule;
+use prediction::rule_of;
 use refusal::Check;
 use refusal::first_of;
 use spec::MsarSpec;
@@ -33,15 +36,16 @@ pub fn smooth_rows(
     requires { ⌜ Shape (k q) (p q) ⌝ }
     requires { ⌜ (m ≡ windowsOf q) × (power ≡ k q ^ p q) × (0 < n) × (2 * (n * m) ≤ length (now work)) × (n * k q ≤ length (now table)) ⌝ }
     ensures same { λ _. ⌜ (length (now (work .exit)) ≡ length (now (work .entry))) × (drop (n * m) (now (work .exit)) ≡ drop (n * m) (now (work .entry))) ⌝ }
-    ensures table { λ _. ⌜ ((y shares : List Float) → Held q y shares n m (2 * n) n (now (work .entry)) → now (table .exit) ≡ fillAt 0 (resultAt (k q) (p q) (smoothedFrom q y shares n)) (n * k q) (now (table .entry))) ⌝ }
+    ensures table { λ _. ⌜ ((rule : Rule) (y shares : List Float) → Held rule q y shares n m (2 * n) n (now (work .entry)) → now (table .exit) ≡ fillAt 0 (resultAt (k q) (p q) (smoothedFrom rule q y shares n)) (n * k q) (now (table .entry))) ⌝ }
 {
     smoother::smooth(q, power, n, work);
     rows::tabulate(work, q.means_count, power, m, n, table);
 }
 
-// A run is the start shares and the filter from them, which keeps the rows that are read later. Work memory is cleared
+// A run is the start shares and the filter from them by the rule, which keeps the rows that are read later. Work memory is cleared
 // after it, refused or not.
 fn run_loglike(
+    rule: Rule,
     q: MsarParams,
     power: usize,
     m: usize,
@@ -51,17 +55,18 @@ fn run_loglike(
 ) -> Answer
     requires { ⌜ Shape (k q) (p q) ⌝ }
     requires { ⌜ (m ≡ windowsOf q) × (power ≡ k q ^ p q) × (p q + n ≡ length (now y)) × (length (now y) ≤ 4096) × (n * m + 256 ≤ length (now work)) ⌝ }
-    ensures answer { λ r. ⌜ r ≡ runAnswer q (now (y .entry)) ⌝ }
+    ensures answer { λ r. ⌜ r ≡ runAnswer rule q (now (y .entry)) ⌝ }
     ensures work { λ _. ⌜ now (work .exit) ≡ cleared (n * m + 256) (now (work .entry)) ⌝ }
 {
     let start = stationary::solved_shares(&q.transition, q.means_count);
-    let answer = filter::run(q, start, power, m, y, n, 0, work);
+    let answer = filter::run(rule, q, start, power, m, y, n, 0, work);
     rows::clear(work, n * m + 256);
     answer
 }
 
 // The table is written where the run was not refused.
 fn run_filter(
+    rule: Rule,
     q: MsarParams,
     power: usize,
     m: usize,
@@ -72,12 +77,12 @@ fn run_filter(
 ) -> Answer
     requires { ⌜ Shape (k q) (p q) ⌝ }
     requires { ⌜ (m ≡ windowsOf q) × (power ≡ k q ^ p q) × (p q + n ≡ length (now y)) × (length (now y) ≤ 4096) × (n * m + 256 ≤ length (now work)) × (n * k q ≤ length (now table)) ⌝ }
-    ensures answer { λ r. ⌜ r ≡ runAnswer q (now (y .entry)) ⌝ }
+    ensures answer { λ r. ⌜ r ≡ runAnswer rule q (now (y .entry)) ⌝ }
     ensures work { λ _. ⌜ now (work .exit) ≡ cleared (n * m + 256) (now (work .entry)) ⌝ }
-    ensures table { λ _. ⌜ now (table .exit) ≡ filteredTable q (now (y .entry)) (now (table .entry)) ⌝ }
+    ensures table { λ _. ⌜ now (table .exit) ≡ filteredTable rule q (now (y .entry)) (now (table .entry)) ⌝ }
 {
     let start = stationary::solved_shares(&q.transition, q.means_count);
-    let answer = filter::run(q, start, power, m, y, n, n, work);
+    let answer = filter::run(rule, q, start, power, m, y, n, n, work);
     let need = n * m + 256;
     let check = answer.check;
     match check {
@@ -95,6 +100,7 @@ fn run_filter(
 
 // The smoothed rows take the place of the filtered ones, so the filtered table is written first.
 fn run_smooth(
+    rule: Rule,
     q: MsarParams,
     power: usize,
     m: usize,
@@ -106,13 +112,13 @@ fn run_smooth(
 ) -> Answer
     requires { ⌜ Shape (k q) (p q) ⌝ }
     requires { ⌜ (m ≡ windowsOf q) × (power ≡ k q ^ p q) × (p q + n ≡ length (now y)) × (length (now y) ≤ 4096) × (2 * (n * m) ≤ length (now work)) × (n * k q ≤ length (now filtered)) × (n * k q ≤ length (now smoothed)) × (0 < n) ⌝ }
-    ensures answer { λ r. ⌜ r ≡ runAnswer q (now (y .entry)) ⌝ }
+    ensures answer { λ r. ⌜ r ≡ runAnswer rule q (now (y .entry)) ⌝ }
     ensures work { λ _. ⌜ now (work .exit) ≡ cleared (2 * (n * m)) (now (work .entry)) ⌝ }
-    ensures filtered { λ _. ⌜ now (filtered .exit) ≡ filteredTable q (now (y .entry)) (now (filtered .entry)) ⌝ }
-    ensures smoothed { λ _. ⌜ now (smoothed .exit) ≡ smoothedTable q (now (y .entry)) (now (smoothed .entry)) ⌝ }
+    ensures filtered { λ _. ⌜ now (filtered .exit) ≡ filteredTable rule q (now (y .entry)) (now (filtered .entry)) ⌝ }
+    ensures smoothed { λ _. ⌜ now (smoothed .exit) ≡ smoothedTable rule q (now (y .entry)) (now (smoothed .entry)) ⌝ }
 {
     let start = stationary::solved_shares(&q.transition, q.means_count);
-    let answer = filter::run(q, start, power, m, y, n, 2 * n, work);
+    let answer = filter::run(rule, q, start, power, m, y, n, 2 * n, work);
     let need = 2 * (n * m);
     let check = answer.check;
     match check {
@@ -141,18 +147,18 @@ pub fn memory(b: Bound, k: usize, need: usize, work: usize, table: usize) -> Che
     first_of(at_work, at_table)
 }
 
-// The log-likelihood of a series.
-pub fn loglike(s: MsarSpec, y: &[f64], q: MsarParams, work: &mut [f64]) -> Answer
-    ensures { λ r. ⌜ record { answer = r; work = now (work .exit); filtered = []; smoothed = [] } ≡ loglikeCall s (now (y .entry)) q (now (work .entry)) ⌝ }
+// The log-likelihood of a series, by the rule with this number.
+pub fn loglike(s: MsarSpec, y: &[f64], q: MsarParams, rule: usize, work: &mut [f64]) -> Answer
+    ensures { λ r. ⌜ record { answer = r; work = now (work .exit); filtered = []; smoothed = [] } ≡ loglikeCall s (now (y .entry)) q rule (now (work .entry)) ⌝ }
 {
     let b = binding::bind(s, y);
     let need = binding::filter_need(b);
     let own = binding::memory(work.len(), need);
-    let given = binding::parameters(s, q);
+    let given = binding::asked(rule, s, q);
     let bound = b.check;
     match first_of(bound, first_of(own, given)) {
         Check::Failed(r) => filter::refused(r),
-        Check::Passed => run_loglike(q, b.power, b.windows, b.rows, y, work),
+        Check::Passed => run_loglike(rule_of(rule), q, b.power, b.windows, b.rows, y, work),
     }
 }
 
@@ -161,19 +167,29 @@ pub fn filter(
     s: MsarSpec,
     y: &[f64],
     q: MsarParams,
+    rule: usize,
     work: &mut [f64],
     filtered: &mut [f64],
 ) -> Answer
-    ensures { λ r. ⌜ record { answer = r; work = now (work .exit); filtered = now (filtered .exit); smoothed = [] } ≡ filterCall s (now (y .entry)) q (now (work .entry)) (now (filtered .entry)) ⌝ }
+    ensures { λ r. ⌜ record { answer = r; work = now (work .exit); filtered = now (filtered .exit); smoothed = [] } ≡ filterCall s (now (y .entry)) q rule (now (work .entry)) (now (filtered .entry)) ⌝ }
 {
     let b = binding::bind(s, y);
     let need = binding::filter_need(b);
     let own = memory(b, s.k_regimes, need, work.len(), filtered.len());
-    let given = binding::parameters(s, q);
+    let given = binding::asked(rule, s, q);
     let bound = b.check;
     match first_of(bound, first_of(own, given)) {
         Check::Failed(r) => filter::refused(r),
-        Check::Passed => run_filter(q, b.power, b.windows, b.rows, y, work, filtered),
+        Check::Passed => run_filter(
+            rule_of(rule),
+            q,
+            b.power,
+            b.windows,
+            b.rows,
+            y,
+            work,
+            filtered,
+        ),
     }
 }
 
@@ -182,20 +198,31 @@ pub fn smooth(
     s: MsarSpec,
     y: &[f64],
     q: MsarParams,
+    rule: usize,
     work: &mut [f64],
     filtered: &mut [f64],
     smoothed: &mut [f64],
 ) -> Answer
-    ensures { λ r. ⌜ record { answer = r; work = now (work .exit); filtered = now (filtered .exit); smoothed = now (smoothed .exit) } ≡ smoothCall s (now (y .entry)) q (now (work .entry)) (now (filtered .entry)) (now (smoothed .entry)) ⌝ }
+    ensures { λ r. ⌜ record { answer = r; work = now (work .exit); filtered = now (filtered .exit); smoothed = now (smoothed .exit) } ≡ smoothCall s (now (y .entry)) q rule (now (work .entry)) (now (filtered .entry)) (now (smoothed .entry)) ⌝ }
 {
     let b = binding::bind(s, y);
     let need = binding::smooth_need(b);
     let own = memory(b, s.k_regimes, need, work.len(), filtered.len());
     let third = binding::memory(smoothed.len(), b.rows * s.k_regimes);
-    let given = binding::parameters(s, q);
+    let given = binding::asked(rule, s, q);
     let bound = b.check;
     match first_of(bound, first_of(first_of(own, third), given)) {
         Check::Failed(r) => filter::refused(r),
-        Check::Passed => run_smooth(q, b.power, b.windows, b.rows, y, work, filtered, smoothed),
+        Check::Passed => run_smooth(
+            rule_of(rule),
+            q,
+            b.power,
+            b.windows,
+            b.rows,
+            y,
+            work,
+            filtered,
+            smoothed,
+        ),
     }
 }

@@ -28,8 +28,9 @@ use Rattle.stationary.proofs.Examples as shares
 use Rattle.window.specs.Windows.{labels}
 use Rattle.window.specs.Shape.{Shape}
 use Rattle.rows.specs.Steps.{labelSum, labelSumAt}
-use Rattle.prediction.specs.Prediction.{firstTo, firstPrediction}
-use Rattle.prediction.specs.Steps.{firstAt, stepAt, laterAt, sumBefore}
+use Rattle.prediction.specs.Prediction.{firstTo, firstPrediction, mixes}
+use Rattle.prediction.specs.declared.Rule.the-variants.{One}
+use Rattle.prediction.specs.Steps.{firstAt, stepAt, steppedAt, laterAt, sumBefore}
 use Rattle.binding.specs.Binding.{readingCheck, readingsCheck, lengthCheck, boundCheck, memoryCheck, paramsCheck, admittedCheck}
 use Rattle.em_sample_variance.proofs.Examples as variances
 use Rattle.fit.specs.Calls.{fitCheck, fitCall}
@@ -138,16 +139,17 @@ abbrev stepsOf : MsarParams → List Float
 stepsOf q = fillAt 0 (stepAt q) 2 (replicate 256 zero⁺)
 
 pub p7-row : {q : MsarParams} {steps row : List Float} → q ≡ twoRegimes 0 half quarter half most → steps ≡ stepsOf q
-    → row ≡ fillAt 0 (laterAt 2 1 steps previous) 2 (replicate 256 zero⁺) → (a : ℕ) → a < 2
-    → row ! a ≡ laterAt 2 1 (stepsOf (twoRegimes 0 half quarter half most)) previous a
-p7-row e f g a h = fill-at _ 2 _ g a h ∙ ap (λ (s : List Float). laterAt 2 1 s previous a) (f ∙ ap stepsOf e)
+    → row ≡ fillAt 0 (laterAt One 0 2 1 (q .transition) steps previous) 2 (replicate 256 zero⁺) → (a : ℕ) → a < 2
+    → row ! a ≡ steppedAt 2 1 (stepsOf (twoRegimes 0 half quarter half most)) previous a
+unfolding laterAt mixes
+p7-row e f g a h = fill-at _ 2 _ g a h ∙ ap (λ (s : List Float). steppedAt 2 1 s previous a) (f ∙ ap stepsOf e)
 
 pub record Later : Type 0 where
-  pub at-0 : laterAt 2 1 (stepsOf (twoRegimes 0 half quarter half most)) previous 0 ≡ half
-  pub at-1 : laterAt 2 1 (stepsOf (twoRegimes 0 half quarter half most)) previous 1 ≡ half
+  pub at-0 : steppedAt 2 1 (stepsOf (twoRegimes 0 half quarter half most)) previous 0 ≡ half
+  pub at-1 : steppedAt 2 1 (stepsOf (twoRegimes 0 half quarter half most)) previous 1 ≡ half
 
 pub later : Later
-unfolding laterAt sumBefore sumUp stepAt fillAt tab labels add mul ofBits
+unfolding steppedAt sumBefore sumUp stepAt fillAt tab labels add mul ofBits
 later = record { at-0 = refl; at-1 = refl }
 
 -- ---- three ones divided by their sum

@@ -12,6 +12,7 @@ ghost use Rattle.refusal.specs.declared.Check.the-variants.{Failed};
 ghost use Rattle.refusal.specs.declared.Refusal.the-variants.{SampleVariance};
 ghost use Rattle.cases.specs.Cases.{same, tells, fails, failsWith, passes, hasWindows, isRefused, pairOf, twoRegimes, unitsOf};
 use params::MsarParams;
+use prediction::Rule;
 use refusal::Check;
 use refusal::Refusal;
 use spec::MsarSpec;
@@ -216,15 +217,26 @@ fn p6() -> bool
     failed_with(check, 21, 0, 1.0)
 }
 
+// By rule 1; crates/run_order_zero has the row by rule 2.
 fn p7() -> bool
     ensures { λ r. ⌜ r ≡ true ⌝ }
 {
-    let steps = prediction::steps(two(0, 0.5, 0.25, 0.5, 0.75), 2);
+    let q = two(0, 0.5, 0.25, 0.5, 0.75);
+    let steps = prediction::steps(q, 2);
     let mut previous = [0.0; 256];
     previous[0] = 0.25;
     previous[1] = 0.75;
     let mut row = [0.0; 256];
-    prediction::later_row(&steps, &previous, 2, 1, &mut row);
+    prediction::later_row(
+        Rule::One,
+        0,
+        &q.transition,
+        &steps,
+        &previous,
+        2,
+        1,
+        &mut row,
+    );
     is(row[0], 0.5) & is(row[1], 0.5)
 }
 

@@ -12,6 +12,7 @@ use Rattle.refusal.specs.declared.Refusal.{Refusal}
 use Rattle.stationary.specs.declared.Shares.{Shares}
 use Rattle.params.specs.declared.MsarParams.{MsarParams}
 use Rattle.params.specs.Parameters.{k, p}
+use Rattle.prediction.specs.declared.Rule.{Rule}
 use Rattle.filter.specs.Filter.{likelihoodCheck, loglikTo, filterCheck, loglikOf, answerAfter, filterAnswer}
 use Rattle.filter.specs.declared.Answer.{Answer}
 
@@ -23,14 +24,14 @@ pub counted : (k p : ℕ) {m power : ℕ} → m ≡ k ^ suc p → power ≡ k ^ 
 counted k p e d = rw (e, d, pow-suc k p) (mul-comm k (k ^ p))
 
 -- the answer is the filter's: refused by the start shares, or what n rows say
-module _ (q : MsarParams) (y : List Float) (start : Shares) {a : Answer} where
-  pub answer-refused : {r : Refusal} (loglik : Float) → start .check ≡ Failed r → a ≡ answerAfter (Failed r) loglik → a ≡ filterAnswer q y start
+module _ (rule : Rule) (q : MsarParams) (y : List Float) (start : Shares) {a : Answer} where
+  pub answer-refused : {r : Refusal} (loglik : Float) → start .check ≡ Failed r → a ≡ answerAfter (Failed r) loglik → a ≡ filterAnswer rule q y start
   unfolding filterAnswer
   answer-refused loglik c e = rw c e
 
   pub answer-of-rows : (n : ℕ) → p q + n ≡ length y → start .check ≡ Passed
-      → a ≡ answerAfter (each n (likelihoodCheck q y (start .values))) (loglikTo q y (start .values) n) → a ≡ filterAnswer q y start
+      → a ≡ answerAfter (each n (likelihoodCheck rule q y (start .values))) (loglikTo rule q y (start .values) n) → a ≡ filterAnswer rule q y start
   unfolding filterAnswer filterCheck loglikOf
   answer-of-rows n rows c e =
       let counted-rows : n ≡ length y - p q = omega arith in
-      rw c (e ∙ ap (λ (j : ℕ). answerAfter (each j (likelihoodCheck q y (start .values))) (loglikTo q y (start .values) j)) counted-rows)
+      rw c (e ∙ ap (λ (j : ℕ). answerAfter (each j (likelihoodCheck rule q y (start .values))) (loglikTo rule q y (start .values) j)) counted-rows)

@@ -1,6 +1,6 @@
 -- The filter: for each row the predicted and the filtered weights of the windows and the likelihood of its reading; the log-likelihood of all.
 -- After Hamilton (1989) and document 01, "Update"; refusal 23. The parameters have passed their checks, and k and p are theirs; the shares from which
--- it starts are handed to it.
+-- it starts are handed to it, and so is the rule by which a later prediction is made.
 use Prim.Native.Nat.{ℕ, zero, suc, _-_, _^_}
 use mathlib.Core.Bool.{not}
 use mathlib.Core.List.{List}
@@ -21,6 +21,7 @@ use Rattle.stationary.specs.declared.Shares.{Shares}
 use Rattle.rows.specs.Rows.{entry, rowOf}
 use Rattle.density.specs.Density.{density}
 use Rattle.prediction.specs.Prediction.{firstPrediction, laterPrediction}
+use Rattle.prediction.specs.declared.Rule.{Rule}
 use Rattle.filter.specs.declared.Answer.{Answer}
 
 -- ---- row i, whose reading stands at time p + i, updated with its prediction
@@ -40,10 +41,10 @@ module _ (q : MsarParams) (y : List Float) (i : ℕ) (predicted : List Float) wh
 
 -- ---- all rows, from the shares of the labels at the start
 
-module _ (q : MsarParams) (y : List Float) (shares : List Float) where
+module _ (rule : Rule) (q : MsarParams) (y : List Float) (shares : List Float) where
   unfoldable pub predictedRow : ℕ → List Float
   predictedRow zero = rowOf (k q) (p q) (firstPrediction q shares)
-  predictedRow (suc i) = rowOf (k q) (p q) (laterPrediction q (updated q y i (predictedRow i)))
+  predictedRow (suc i) = rowOf (k q) (p q) (laterPrediction rule q (updated q y i (predictedRow i)))
 
   unfoldable pub filteredRow : ℕ → List Float
   filteredRow i = updated q y i (predictedRow i)
@@ -66,11 +67,11 @@ abbrev pub rowCount : MsarParams → List Float → ℕ
 rowCount q y = length y - p q
 
 -- 23 at the first row that gives it
-unfoldable pub filterCheck : MsarParams → List Float → List Float → Check
-filterCheck q y shares = each (rowCount q y) (likelihoodCheck q y shares)
+unfoldable pub filterCheck : Rule → MsarParams → List Float → List Float → Check
+filterCheck rule q y shares = each (rowCount q y) (likelihoodCheck rule q y shares)
 
-unfoldable pub loglikOf : MsarParams → List Float → List Float → Float
-loglikOf q y shares = loglikTo q y shares (rowCount q y)
+unfoldable pub loglikOf : Rule → MsarParams → List Float → List Float → Float
+loglikOf rule q y shares = loglikTo rule q y shares (rowCount q y)
 
 -- after a refusal the log-likelihood is zero
 abbrev pub answerAfter : Check → Float → Answer
@@ -78,5 +79,5 @@ answerAfter Passed loglik = record { check = Passed; loglik = loglik }
 answerAfter (Failed r) loglik = record { check = Failed r; loglik = zero⁺ }
 
 -- from shares that have a check of their own, which comes first
-unfoldable pub filterAnswer : MsarParams → List Float → Shares → Answer
-filterAnswer q y start = answerAfter (start .check before filterCheck q y (start .values)) (loglikOf q y (start .values))
+unfoldable pub filterAnswer : Rule → MsarParams → List Float → Shares → Answer
+filterAnswer rule q y start = answerAfter (start .check before filterCheck rule q y (start .values)) (loglikOf rule q y (start .values))

@@ -12,6 +12,7 @@ use Rattle.params.specs.declared.MsarParams.{MsarParams}
 use Rattle.params.specs.Parameters.{k, p}
 use Rattle.rows.specs.Rows.{Same, windowsOf}
 use Rattle.rows.specs.Memory.{predictedFrom, filteredFrom}
+use Rattle.prediction.specs.declared.Rule.{Rule}
 use Rattle.density.specs.Steps.{Parts, deviationAt, logAt}
 use Rattle.filter.specs.Filter.{weight, total, predictedRow, filteredRow}
 
@@ -27,6 +28,6 @@ pub record Weighed (q : MsarParams) (y : List Float) (m i : ℕ) (predicted weig
   pub likelihood-is : likelihood ≡ total q y i predicted
 
 -- of n rows those before row i stand in work memory, where they are among the first `kept`: the filtered rows count first, the predicted behind them
-pub record Held (q : MsarParams) (y shares : List Float) (n m kept i : ℕ) (work : List Float) : Type 0 where
-  pub filtered : (j : ℕ) → j < i → j < kept → Same m (drop (filteredFrom m j) work) (filteredRow q y shares j)
-  pub predicted : (j : ℕ) → j < i → n + j < kept → Same m (drop (predictedFrom n m j) work) (predictedRow q y shares j)
+pub record Held (rule : Rule) (q : MsarParams) (y shares : List Float) (n m kept i : ℕ) (work : List Float) : Type 0 where
+  pub filtered : (j : ℕ) → j < i → j < kept → Same m (drop (filteredFrom m j) work) (filteredRow rule q y shares j)
+  pub predicted : (j : ℕ) → j < i → n + j < kept → Same m (drop (predictedFrom n m j) work) (predictedRow rule q y shares j)

@@ -16,6 +16,7 @@ ghost use Rattle.prediction.specs.Steps.{laterAt, stepAt};
 ghost use Rattle.filter.specs.Filter.{likelihoodCheck, loglikTo, answerAfter, filterAnswer};
 ghost use Rattle.filter.specs.Steps.{Scales, Weighed, Held};
 use params::MsarParams;
+use prediction::Rule;
 use refusal::Check;
 use refusal::Refusal;
 use stationary::Shares;
@@ -101,6 +102,9 @@ fn keep(
 
 // Row i is done: its weights are divided, kept with its prediction as far as `kept` says, and give the next prediction.
 fn advance(
+    rule: Rule,
+    order: usize,
+    transition: &[f64; 256],
     steps: &[f64; 256],
     likelihood: f64,
     k: usize,
@@ -113,18 +117,19 @@ fn advance(
     weights: &mut [f64; 256],
     work: &mut [f64],
 )
-    requires { ⌜ (0 < k) × (k * power ≡ m) × (m ≤ 256) × (i < n) × (n ≤ 4096) × (length (now predicted) ≡ 256) × (length (now weights) ≡ 256) × (kept * m ≤ length (now work)) ⌝ }
+    requires { ⌜ (0 < k) × (k ≤ 16) × (k * power ≡ m) × (power ≡ k ^ order) × (m ≤ 256) × (i < n) × (n ≤ 4096) × (length (now predicted) ≡ 256) × (length (now weights) ≡ 256) × (kept * m ≤ length (now work)) ⌝ }
     ensures weights { λ _. ⌜ now (weights .exit) ≡ fillAt 0 (λ a. now (weights .entry) ! a ⊘ likelihood) m (now (weights .entry)) ⌝ }
-    ensures predicted { λ _. ⌜ now (predicted .exit) ≡ fillAt 0 (laterAt k power (now (steps .entry)) (now (weights .exit))) m (now (predicted .entry)) ⌝ }
+    ensures predicted { λ _. ⌜ now (predicted .exit) ≡ fillAt 0 (laterAt rule order k power (now (transition .entry)) (now (steps .entry)) (now (weights .exit))) m (now (predicted .entry)) ⌝ }
     ensures work { λ _. ⌜ now (work .exit) ≡ stored m kept (n + i) (now (predicted .entry)) (stored m kept i (now (weights .exit)) (now (work .entry))) ⌝ }
 {
     divide(weights, likelihood, m);
     keep(predicted, weights, n, m, i, kept, work);
-    prediction::later_row(steps, weights, k, power, predicted);
+    prediction::later_row(rule, order, transition, steps, weights, k, power, predicted);
 }
 
 // The rows, one after another: 23 at the first whose likelihood is not finite or not above zero.
 fn each_row(
+    rule: Rule,
     q: MsarParams,
     shares: &[f64; 16],
     phis: &[f64; 112],
@@ -142,9 +147,9 @@ fn each_row(
     requires { ⌜ (m ≡ windowsOf q) × (k q * power ≡ m) × (power ≡ k q ^ p q) × (p q + n ≡ length (now y)) × (length (now y) ≤ 4096) × (kept * m ≤ length (now work)) ⌝ }
     requires { ⌜ now steps ≡ fillAt 0 (stepAt q) m (replicate 256 zero⁺) ⌝ }
     requires { ⌜ Scales q (k q) (p q) m (q .means) (now phis) (now deviations) (now logarithms) ⌝ }
-    ensures answer { λ r. ⌜ r ≡ answerAfter (each n (likelihoodCheck q (now (y .entry)) (now (shares .entry)))) (loglikTo q (now (y .entry)) (now (shares .entry)) n) ⌝ }
+    ensures answer { λ r. ⌜ r ≡ answerAfter (each n (likelihoodCheck rule q (now (y .entry)) (now (shares .entry)))) (loglikTo rule q (now (y .entry)) (now (shares .entry)) n) ⌝ }
     ensures same { λ _. ⌜ (length (now (work .exit)) ≡ length (now (work .entry))) × (drop (kept * m) (now (work .exit)) ≡ drop (kept * m) (now (work .entry))) ⌝ }
-    ensures rows { λ r. ⌜ (r .check ≡ Passed → Held q (now (y .entry)) (now (shares .entry)) n m kept n (now (work .exit))) ⌝ }
+    ensures rows { λ r. ⌜ (r .check ≡ Passed → Held rule q (now (y .entry)) (now (shares .entry)) n m kept n (now (work .exit))) ⌝ }
 {
     let mut predicted = [0.0; 256];
     prediction::first_row(q, shares, m, &mut predicted);
@@ -172,6 +177,9 @@ fn each_row(
         }
         loglik = loglik + log::log(likelihood);
         advance(
+            rule,
+            q.order,
+            &q.transition,
             steps,
             likelihood,
             q.means_count,
@@ -193,8 +201,9 @@ fn each_row(
 }
 
 // The filter of a series from its start shares: their refusal, else the rows. n is the count of rows, m that of windows,
-// power k^order. It keeps the first `kept` of the n filtered and the n predicted rows: none, n, or all 2 · n.
+// power k^order, and later predictions are made by the rule. It keeps the first `kept` of the n filtered and the n predicted rows: none, n, or all 2 · n.
 pub fn run(
+    rule: Rule,
     q: MsarParams,
     start: Shares,
     power: usize,
@@ -206,9 +215,9 @@ pub fn run(
 ) -> Answer
     requires { ⌜ Shape (k q) (p q) ⌝ }
     requires { ⌜ (m ≡ windowsOf q) × (power ≡ k q ^ p q) × (p q + n ≡ length (now y)) × (length (now y) ≤ 4096) × (kept * m ≤ length (now work)) ⌝ }
-    ensures answer { λ r. ⌜ r ≡ filterAnswer q (now (y .entry)) start ⌝ }
+    ensures answer { λ r. ⌜ r ≡ filterAnswer rule q (now (y .entry)) start ⌝ }
     ensures same { λ _. ⌜ (length (now (work .exit)) ≡ length (now (work .entry))) × (drop (kept * m) (now (work .exit)) ≡ drop (kept * m) (now (work .entry))) ⌝ }
-    ensures rows { λ r. ⌜ (r .check ≡ Passed → Held q (now (y .entry)) (start .values) n m kept n (now (work .exit))) ⌝ }
+    ensures rows { λ r. ⌜ (r .check ≡ Passed → Held rule q (now (y .entry)) (start .values) n m kept n (now (work .exit))) ⌝ }
 {
     let check = start.check;
     if let Check::Failed(r) = check {
@@ -220,6 +229,7 @@ pub fn run(
     let logarithms = density::logarithms(&deviations, q.means_count, m);
     let steps = prediction::steps(q, m);
     each_row(
+        rule,
         q,
         &shares,
         &phis,

@@ -29,6 +29,7 @@ use Rattle.em_sample_variance.specs.Series.{sampleVariance}
 use Rattle.em_ridge.specs.Ridge.{small}
 use Rattle.filter.specs.Filter.{answerAfter}
 use Rattle.filter.specs.declared.Answer.{Answer}
+use Rattle.prediction.specs.declared.Rule.the-variants.{One}
 use Rattle.calls.specs.Calls.{runCheck, runLoglik, runAnswer, cleared, smoothedTable}
 use Rattle.calls.proofs.Admitted.{Admitted}
 use Rattle.em_step.specs.Ready.{Ready}
@@ -45,7 +46,7 @@ use Rattle.fit.proofs.Going.{Kept, passes-kept}
 
 -- ---- the closing pass
 
-module _ (y : List Float) (q : MsarParams) (i : ℕ) (c : Bool) {a : Answer} (answer : a ≡ runAnswer q y) where
+module _ (y : List Float) (q : MsarParams) (i : ℕ) (c : Bool) {a : Answer} (answer : a ≡ runAnswer One q y) where
   loglik-after : (d : Check) (loglik : Float) → fittedAfter (answerAfter d loglik .check) q (answerAfter d loglik .loglik) i c ≡ fittedAfter d q loglik i c
   loglik-after Passed loglik = refl
   loglik-after (Failed r) loglik = refl
@@ -53,7 +54,7 @@ module _ (y : List Float) (q : MsarParams) (i : ℕ) (c : Bool) {a : Answer} (an
   -- what is made of its answer
   pub closing-is : {f : Fitted} → f ≡ fittedAfter (a .check) q (a .loglik) i c → f ≡ closed y q i c
   unfolding closed runAnswer
-  closing-is e = e ∙ ap (λ (x : Answer). fittedAfter (x .check) q (x .loglik) i c) answer ∙ loglik-after (runCheck q y) (runLoglik q y)
+  closing-is e = e ∙ ap (λ (x : Answer). fittedAfter (x .check) q (x .loglik) i c) answer ∙ loglik-after (runCheck One q y) (runLoglik One q y)
 
 module _ (a : Answer) (q : MsarParams) (i : ℕ) (c : Bool) {f : Fitted} where
   pub ended-passed : a .check ≡ Passed → f ≡ fittedAfter Passed q (a .loglik) i c → f ≡ fittedAfter (a .check) q (a .loglik) i c
@@ -120,7 +121,7 @@ module _ (y : List Float) (max : ℕ) (q start : MsarParams) where
   at-refusal (Converged n) e = cc
   at-refusal (Refused r) e = ap (λ (x : Check). fittedAfter x start zero⁺ 0 false) (sym e)
 
-  table-at-end : (c : Course) (found : List Float) → endOf max c .check ≡ Passed → smoothedTable q y found ≡ tableAt y q c found
+  table-at-end : (c : Course) (found : List Float) → endOf max c .check ≡ Passed → smoothedTable One q y found ≡ tableAt y q c found
   table-at-end Going found e = refl
   table-at-end (Converged n) found e = refl
   table-at-end (Refused r) found e = cc
@@ -152,7 +153,7 @@ module _ (y : List Float) (tol : Float) (max : ℕ) (start : MsarParams) {s : St
   pub end-refused : {f : Fitted} {r : Refusal} → E .check ≡ Failed r → f ≡ fittedAfter (Failed r) start zero⁺ 0 false → f ≡ fittedOf y tol max start
   end-refused d h = h ∙ at-refusal y max (s .params) start (s .course) (check-is d) ∙ fitted-at
 
-  pub table-passed : (found : List Float) {t : List Float} → E .check ≡ Passed → t ≡ smoothedTable (s .params) y found → t ≡ fittedTable y tol max start found
+  pub table-passed : (found : List Float) {t : List Float} → E .check ≡ Passed → t ≡ smoothedTable One (s .params) y found → t ≡ fittedTable y tol max start found
   table-passed found d h = h ∙ table-at-end y max (s .params) start (s .course) found (check-is d) ∙ table-at found
 
   pub table-refused : (found : List Float) {r : Refusal} → E .check ≡ Failed r → found ≡ fittedTable y tol max start found

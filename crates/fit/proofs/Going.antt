@@ -17,6 +17,7 @@ use Rattle.refusal.specs.declared.Refusal.the-variants.{Loglike}
 use Rattle.params.specs.declared.MsarParams.{MsarParams}
 use Rattle.params.specs.Checks.{parameterCheck}
 use Rattle.filter.specs.Filter.{rowCount}
+use Rattle.prediction.specs.declared.Rule.the-variants.{One}
 use Rattle.calls.specs.Calls.{runCheck, runLoglik}
 use Rattle.em_step.specs.Step.{stepOf}
 use Rattle.em_step.proofs.Kept.{Alike, alike-twice, Good, step-good}
@@ -92,8 +93,8 @@ module _ (start : MsarParams) where
     unfolding passOf
     pass-kept i q last good =
         let new = stepOf y (rowCount q y) (smoothedRows q y) q in
-        reached-kept (suc i) q last (runCheck q y before Loglike when not (finite (runLoglik q y))) _ (λ _.
-        either-kept (suc i) (stops tol i last (runLoglik q y)) _ _ (good, omega arith)
+        reached-kept (suc i) q last (runCheck One q y before Loglike when not (finite (runLoglik One q y))) _ (λ _.
+        either-kept (suc i) (stops tol i last (runLoglik One q y)) _ _ (good, omega arith)
         (reached-kept (suc i) q last (new .check) _ (λ d.
         let g = step-good y (rowCount q y) (smoothedRows q y) q d in
         record { alike = alike-twice (g .alike) (good .alike); checked = g .checked })))

@@ -23,6 +23,7 @@ use Rattle.filter.specs.Filter.{predictedRow, filteredRow, rowCount, answerAfte
 use Rattle.filter.specs.Steps.{Held}
 use Rattle.filter.specs.declared.Answer.{Answer}
 use Rattle.smoother.specs.InMemory.{SmoothedRows}
+use Rattle.prediction.specs.declared.Rule.the-variants.{One}
 use Rattle.calls.specs.Calls.{runCheck, runLoglik, runAnswer, smoothedFrom}
 use Rattle.calls.proofs.Runs.{run-says, drop-more}
 use Rattle.em_step.specs.Step.{stepOf}
@@ -41,23 +42,23 @@ loglik-said : (c : Check) (loglik : Float) → answerAfter c loglik .check ≡ P
 loglik-said Passed loglik e = refl
 loglik-said (Failed r) loglik e = cc
 
-module _ (q : MsarParams) (y : List Float) {a : Answer} (answer : a ≡ runAnswer q y) where
-  pub loglik-is : a .check ≡ Passed → a .loglik ≡ runLoglik q y
+module _ (q : MsarParams) (y : List Float) {a : Answer} (answer : a ≡ runAnswer One q y) where
+  pub loglik-is : a .check ≡ Passed → a .loglik ≡ runLoglik One q y
   unfolding runAnswer
-  loglik-is e = ap (λ (x : Answer). x .loglik) answer ∙ loglik-said (runCheck q y) (runLoglik q y) (sym (ap (λ (x : Answer). x .check) answer) ∙ e)
+  loglik-is e = ap (λ (x : Answer). x .loglik) answer ∙ loglik-said (runCheck One q y) (runLoglik One q y) (sym (ap (λ (x : Answer). x .check) answer) ∙ e)
 
 -- ---- the verdict
 
-module _ (y : List Float) (tol : Float) (i : ℕ) (q : MsarParams) (last : Float) {a : Answer} (answer : a ≡ runAnswer q y) {v : Verdict} where
+module _ (y : List Float) (tol : Float) (i : ℕ) (q : MsarParams) (last : Float) {a : Answer} (answer : a ≡ runAnswer One q y) {v : Verdict} where
   pub run-refused : {r : Refusal} → a .check ≡ Failed r → v ≡ record { course = Refused r; loglik = zero⁺ } → v ≡ verdictOf y tol i q last
   unfolding verdictOf
-  run-refused d e = rw (run-says q y answer d) e
+  run-refused d e = rw (run-says One q y answer d) e
 
   pub run-passed : a .check ≡ Passed
       → v ≡ verdictAfter (Loglike when not (finite (a .loglik))) (record { course = if stops tol i last (a .loglik) then Converged (suc i) else Going; loglik = a .loglik })
       → v ≡ verdictOf y tol i q last
   unfolding verdictOf
-  run-passed d e = rw (run-says q y answer d, ← loglik-is q y answer d) e
+  run-passed d e = rw (run-says One q y answer d, ← loglik-is q y answer d) e
 
 module _ (tol : Float) (i : ℕ) (last loglik : Float) where
   abbrev Says : Verdict → Type 0
@@ -120,10 +121,10 @@ module _ (q : MsarParams) (last : Float) (i : ℕ) (loglik : Float) (new : Built
 module _ (y : List Float) (tol : Float) (i : ℕ) (q : MsarParams) (last : Float) {v : Verdict} (verdict : v ≡ verdictOf y tol i q last) where
   -- the check before the stop rule, the stop rule, and the step
   abbrev check : Check
-  check = runCheck q y before Loglike when not (finite (runLoglik q y))
+  check = runCheck One q y before Loglike when not (finite (runLoglik One q y))
 
   abbrev stop : Bool
-  stop = stops tol i last (runLoglik q y)
+  stop = stops tol i last (runLoglik One q y)
 
   abbrev stepped : Built
   stepped = stepOf y (rowCount q y) (smoothedRows q y) q
@@ -133,26 +134,26 @@ module _ (y : List Float) (tol : Float) (i : ℕ) (q : MsarParams) (last : Float
 
   pub pass-converged : {n : ℕ} → v .course ≡ Converged n → record { course = Converged n; params = q; loglik = v .loglik } ≡ passOf y tol i q last
   unfolding verdictOf passOf
-  pass-converged {n} e = ap (λ (x : Verdict). record { course = Converged n; params = q; loglik = x .loglik }) verdict ∙ by-converged q last i (runLoglik q y) stepped check stop (course-is e)
+  pass-converged {n} e = ap (λ (x : Verdict). record { course = Converged n; params = q; loglik = x .loglik }) verdict ∙ by-converged q last i (runLoglik One q y) stepped check stop (course-is e)
 
   pub pass-refused : {r : Refusal} → v .course ≡ Refused r → record { course = Refused r; params = q; loglik = last } ≡ passOf y tol i q last
   unfolding verdictOf passOf
-  pass-refused e = by-refused q last i (runLoglik q y) stepped check stop (course-is e)
+  pass-refused e = by-refused q last i (runLoglik One q y) stepped check stop (course-is e)
 
   module _ {new : Built} (step : new ≡ stepped) (going : v .course ≡ Going) where
     pub pass-step-refused : {r : Refusal} → new .check ≡ Failed r → record { course = Refused r; params = q; loglik = last } ≡ passOf y tol i q last
     unfolding verdictOf passOf
-    pass-step-refused d = by-step-refused q last i (runLoglik q y) stepped check stop (course-is going) (sym (ap (λ (x : Built). x .check) step) ∙ d)
+    pass-step-refused d = by-step-refused q last i (runLoglik One q y) stepped check stop (course-is going) (sym (ap (λ (x : Built). x .check) step) ∙ d)
 
     pub pass-stepped : new .check ≡ Passed → record { course = Going; params = new .params; loglik = v .loglik } ≡ passOf y tol i q last
     unfolding verdictOf passOf
-    pass-stepped d = ap (λ (x : Built). record { course = Going; params = x .params; loglik = v .loglik }) step ∙ ap (λ (x : Verdict). record { course = Going; params = stepped .params; loglik = x .loglik }) verdict ∙ by-step q last i (runLoglik q y) stepped check stop (course-is going) (sym (ap (λ (x : Built). x .check) step) ∙ d)
+    pass-stepped d = ap (λ (x : Built). record { course = Going; params = x .params; loglik = v .loglik }) step ∙ ap (λ (x : Verdict). record { course = Going; params = stepped .params; loglik = x .loglik }) verdict ∙ by-step q last i (runLoglik One q y) stepped check stop (course-is going) (sym (ap (λ (x : Built). x .check) step) ∙ d)
 
 -- ---- memory, after the filter and the smoother
 
 -- rows from the same shares
-pub held-at : {q : MsarParams} {y shares shares′ : List Float} {n m kept i : ℕ} {work : List Float} → shares ≡ shares′ → Held q y shares n m kept i work → Held q y shares′ n m kept i work
-held-at {q} {y} {n = n} {m} {kept} {i} {work} e h = subst (λ (x : List Float). Held q y x n m kept i work) e h
+pub held-at : {q : MsarParams} {y shares shares′ : List Float} {n m kept i : ℕ} {work : List Float} → shares ≡ shares′ → Held One q y shares n m kept i work → Held One q y shares′ n m kept i work
+held-at {q} {y} {n = n} {m} {kept} {i} {work} e h = subst (λ (x : List Float). Held One q y x n m kept i work) e h
 
 pub ready-long : {q : MsarParams} {y : List Float} {floor : Float} {power n lent lent′ : ℕ} → lent′ ≡ lent → Ready q y floor power n lent
     → Ready q y floor power n lent′
@@ -166,12 +167,12 @@ rest-kept q m n work ran after e done d =
 -- ---- the step reads the smoothed rows in memory
 
 module _ (q : MsarParams) (y : List Float) (floor : Float) (power m n lent : ℕ) (ready : Ready q y floor power n lent) (windows : m ≡ windowsOf q)
-    (work after : List Float) (held : Held q y (startShares q .values) n m (2 * n) n work) (done : SmoothedRows q n work after) where
+    (work after : List Float) (held : Held One q y (startShares q .values) n m (2 * n) n work) (done : SmoothedRows q n work after) where
   abbrev predicted : ℕ → List Float
-  predicted = predictedRow q y (startShares q .values)
+  predicted = predictedRow One q y (startShares q .values)
 
   abbrev filtered : ℕ → List Float
-  filtered = filteredRow q y (startShares q .values)
+  filtered = filteredRow One q y (startShares q .values)
 
   counted : n ≡ rowCount q y
   counted = omega (arith, ready .rows-are)
@@ -179,7 +180,7 @@ module _ (q : MsarParams) (y : List Float) (floor : Float) (power m n lent : ℕ
   smoothed-stand : (i : ℕ) → i < n → Same (windowsOf q) (drop (filteredFrom (windowsOf q) i) after) (smoothedRows q y i)
   unfolding smoothedRows
   smoothed-stand i h =
-      subst (λ (x : ℕ). Same (windowsOf q) (drop (filteredFrom (windowsOf q) i) after) (smoothedFrom q y (startShares q .values) x i)) counted
+      subst (λ (x : ℕ). Same (windowsOf q) (drop (filteredFrom (windowsOf q) i) after) (smoothedFrom One q y (startShares q .values) x i)) counted
       (done .rows predicted filtered
       (λ j l. subst (λ (x : ℕ). Same x (drop (predictedFrom n x j) work) (predicted j)) windows (held .predicted j l (omega arith)))
       (λ j l. subst (λ (x : ℕ). Same x (drop (filteredFrom x j) work) (filtered j)) windows (held .filtered j l (omega arith))) i h)

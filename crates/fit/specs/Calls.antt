@@ -15,6 +15,7 @@ use Rattle.params.specs.declared.MsarParams.{MsarParams}
 use Rattle.params.specs.Parameters.{p}
 use Rattle.binding.specs.Binding.{admittedCheck, memoryCheck, smoothNeed, tableNeed}
 use Rattle.em_sample_variance.specs.Series.{sampleVariance}
+use Rattle.prediction.specs.declared.Rule.the-variants.{One}
 use Rattle.calls.specs.Calls.{cleared, smoothedTable}
 use Rattle.fit.specs.declared.Course.{Course}
 use Rattle.fit.specs.declared.Course.the-variants.{Going, Converged, Refused}
@@ -27,8 +28,8 @@ fitCheck q y = OrderZero when p q =? 0 before SampleVariance (sampleVariance y) 
 
 -- the smoothed table at the parameters reached; a refused fit leaves it as found
 abbrev pub tableAt : List Float → MsarParams → Course → List Float → List Float
-tableAt y q Going found = smoothedTable q y found
-tableAt y q (Converged n) found = smoothedTable q y found
+tableAt y q Going found = smoothedTable One q y found
+tableAt y q (Converged n) found = smoothedTable One q y found
 tableAt y q (Refused r) found = found
 
 unfoldable pub fittedTable : List Float → Float → ℕ → MsarParams → List Float → List Float

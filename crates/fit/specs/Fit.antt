@@ -14,6 +14,7 @@ use Rattle.params.specs.declared.MsarParams.{MsarParams}
 use Rattle.params.specs.Built.{tidy, nothing}
 use Rattle.stationary.specs.Stationary.{startShares}
 use Rattle.filter.specs.Filter.{rowCount}
+use Rattle.prediction.specs.declared.Rule.the-variants.{One}
 use Rattle.calls.specs.Calls.{runCheck, runLoglik, smoothedFrom}
 use Rattle.em_step.specs.Step.{stepOf}
 use Rattle.fit.specs.declared.Course.{Course}
@@ -23,9 +24,9 @@ use Rattle.fit.specs.declared.Fitted.{Fitted}
 
 -- ---- one pass
 
--- the smoothed rows at q
+-- the smoothed rows at q. A fit has an order from one up, where both rules are the same: rule 1 stands for them
 unfoldable pub smoothedRows : MsarParams → List Float → ℕ → List Float
-smoothedRows q y i = smoothedFrom q y (startShares q .values) (rowCount q y) i
+smoothedRows q y i = smoothedFrom One q y (startShares q .values) (rowCount q y) i
 
 -- pass number i, from 0, converges: from the second on, where the gain is at most tol. A fall counts too, and a NaN tol never stops
 unfoldable pub stops : Float → ℕ → Float → Float → Bool
@@ -40,9 +41,9 @@ module _ (y : List Float) (tol : Float) where
   -- pass number i at q; the pass before had the log-likelihood `last`
   unfoldable pub passOf : ℕ → MsarParams → Float → State
   passOf i q last =
-      let loglik = runLoglik q y in
+      let loglik = runLoglik One q y in
       let new = stepOf y (rowCount q y) (smoothedRows q y) q in
-      reached q last (runCheck q y before Loglike when not (finite loglik))
+      reached q last (runCheck One q y before Loglike when not (finite loglik))
       (if stops tol i last loglik
       then record { course = Converged (suc i); params = q; loglik = loglik }
       else reached q last (new .check) (record { course = Going; params = new .params; loglik = loglik }))
@@ -71,7 +72,7 @@ fittedAfter (Failed r) q loglik iterations converged =
 
 -- at the parameters reached
 unfoldable pub closed : List Float → MsarParams → ℕ → Bool → Fitted
-closed y q iterations converged = fittedAfter (runCheck q y) q (runLoglik q y) iterations converged
+closed y q iterations converged = fittedAfter (runCheck One q y) q (runLoglik One q y) iterations converged
 
 -- iterations are the passes begun, the stopping one among them
 abbrev pub endedAt : List Float → ℕ → MsarParams → Course → Fitted

@@ -10,6 +10,7 @@ use Rattle.refusal.specs.declared.Check.{Check}
 use Rattle.refusal.specs.declared.Check.the-variants.{Passed, Failed}
 use Rattle.refusal.specs.declared.Refusal.the-variants.{Loglike}
 use Rattle.params.specs.declared.MsarParams.{MsarParams}
+use Rattle.prediction.specs.declared.Rule.the-variants.{One}
 use Rattle.calls.specs.Calls.{runCheck, runLoglik}
 use Rattle.fit.specs.declared.Course.{Course}
 use Rattle.fit.specs.declared.Course.the-variants.{Going, Converged, Refused}
@@ -23,8 +24,8 @@ verdictAfter (Failed r) v = record { course = Refused r; loglik = zero⁺ }
 
 unfoldable pub verdictOf : List Float → Float → ℕ → MsarParams → Float → Verdict
 verdictOf y tol i q last =
-    let loglik = runLoglik q y in
-    verdictAfter (runCheck q y before Loglike when not (finite loglik))
+    let loglik = runLoglik One q y in
+    verdictAfter (runCheck One q y before Loglike when not (finite loglik))
     (record { course = if stops tol i last loglik then Converged (suc i) else Going; loglik = loglik })
 
 -- where the passes ended: their refusal, or how many there were and whether they converged

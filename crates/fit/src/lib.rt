@@ -17,6 +17,7 @@ ghost use Rattle.params.specs.Checks.{parameterCheck};
 ghost use Rattle.params.specs.Built.{tidy};
 ghost use Rattle.rows.specs.Rows.{windowsOf};
 ghost use Rattle.stationary.specs.Stationary.{startShares};
+ghost use Rattle.prediction.specs.declared.Rule.the-variants.{One};
 ghost use Rattle.filter.specs.Steps.{Held};
 ghost use Rattle.em_sample_variance.specs.Series.{sampleVariance};
 ghost use Rattle.calls.specs.Calls.{runAnswer, cleared, smoothedTable};
@@ -27,6 +28,7 @@ ghost use Rattle.fit.specs.declared.Course.the-variants.{Going, Converge
 ghost use Rattle.fit.specs.Calls.{fitCheck, fittedTable, fitCall};
 use filter::Answer;
 use params::MsarParams;
+use prediction::Rule;
 use refusal::Check;
 use refusal::Refusal;
 use refusal::first_of;
@@ -111,10 +113,10 @@ fn judge(
     requires { ⌜ (m ≡ windowsOf q) × (power ≡ k q ^ p q) × (p q + n ≡ length (now y)) × (length (now y) ≤ 4096) × (2 * (n * m) ≤ length (now work)) × (i < 18446744073709551615) ⌝ }
     ensures verdict { λ v. ⌜ v ≡ verdictOf (now (y .entry)) tol i q last ⌝ }
     ensures rest { λ _. ⌜ (length (now (work .exit)) ≡ length (now (work .entry))) × (drop (2 * (n * m)) (now (work .exit)) ≡ drop (2 * (n * m)) (now (work .entry))) ⌝ }
-    ensures rows { λ v. ⌜ (v .course ≡ Going → Held q (now (y .entry)) (startShares q .values) n m (2 * n) n (now (work .exit))) ⌝ }
+    ensures rows { λ v. ⌜ (v .course ≡ Going → Held One q (now (y .entry)) (startShares q .values) n m (2 * n) n (now (work .exit))) ⌝ }
 {
     let start = stationary::solved_shares(&q.transition, q.means_count);
-    let answer = filter::run(q, start, power, m, y, n, 2 * n, work);
+    let answer = filter::run(Rule::One, q, start, power, m, y, n, 2 * n, work);
     let check = answer.check;
     if let Check::Failed(r) = check {
         return Verdict {
@@ -234,12 +236,12 @@ fn close(
 ) -> Answer
     requires { ⌜ Shape (k q) (p q) ⌝ }
     requires { ⌜ (m ≡ windowsOf q) × (power ≡ k q ^ p q) × (p q + n ≡ length (now y)) × (length (now y) ≤ 4096) × (2 * (n * m) ≤ length (now work)) × (n * k q ≤ length (now smoothed)) × (0 < n) ⌝ }
-    ensures answer { λ a. ⌜ a ≡ runAnswer q (now (y .entry)) ⌝ }
+    ensures answer { λ a. ⌜ a ≡ runAnswer One q (now (y .entry)) ⌝ }
     ensures work { λ _. ⌜ now (work .exit) ≡ cleared (2 * (n * m)) (now (work .entry)) ⌝ }
-    ensures smoothed { λ _. ⌜ now (smoothed .exit) ≡ smoothedTable q (now (y .entry)) (now (smoothed .entry)) ⌝ }
+    ensures smoothed { λ _. ⌜ now (smoothed .exit) ≡ smoothedTable One q (now (y .entry)) (now (smoothed .entry)) ⌝ }
 {
     let start = stationary::solved_shares(&q.transition, q.means_count);
-    let answer = filter::run(q, start, power, m, y, n, 2 * n, work);
+    let answer = filter::run(Rule::One, q, start, power, m, y, n, 2 * n, work);
     let need = 2 * (n * m);
     let check = answer.check;
     match check {

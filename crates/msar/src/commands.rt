@@ -64,12 +64,13 @@ pub fn on_series(
     let command = o.command;
     match command {
         Command::Loglike => {
-            msar_commands::loglike(s, y, q, numbers, readings, o.digits, &mut work)
+            msar_commands::loglike(s, y, q, o.rule, numbers, readings, o.digits, &mut work)
         }
         Command::Filter => msar_commands::filter(
             s,
             y,
             q,
+            o.rule,
             numbers,
             texts,
             readings,
@@ -81,6 +82,7 @@ pub fn on_series(
             s,
             y,
             q,
+            o.rule,
             numbers,
             texts,
             readings,
@@ -93,6 +95,7 @@ pub fn on_series(
             s,
             y,
             q,
+            o.rule,
             numbers,
             texts,
             readings,

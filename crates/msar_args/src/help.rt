@@ -22,6 +22,7 @@ pub fn help() {
   --separator , | ';' | tab  what parts its cells (,)
   --keep NAME | '#N'         carries another column's text into the table of filter, smooth or verdict
   --digits N                 tables with N significant digits, 1 to 17, for people to read
+  --rule 1 | 2               loglike, filter, smooth, verdict at order 0: 2 (default) looks at the regime before, 1 does not
   -                          for MODEL or SERIES: standard input
 
 The model:  y[t] = mean[s] + ar[1] (y[t-1] - mean[s1]) + .. + ar[P] (y[t-P] - mean[sP]) + noise of regime s's variance,
@@ -34,10 +35,9 @@ where s is the regime at reading t and s1 .. sP those before it. A MODEL file, l
   variances X .. X           one number for all regimes, or K
 A SERIES without --column: one number on each line; # begins a comment. A number: 3, -0.25, 2e-3, or 0x and its 16 digits.
 At most 4096 readings with up to 48 windows, and P + 196608 / windows with more; loglike and filter take 4096 with up to 95
-windows, and P + 392960 / windows with more.
+windows, and P + 392960 / windows with more. Readings and regimes count from 0, lines and columns of files from 1.
 
-Readings and regimes count from 0, lines and columns of files from 1. At order 0 the regime before is not looked at, and the
-rows of smooth do not add up to 1. docs/GUIDE.md goes from a file of readings to a verdict; docs/MODEL.md has all of this.
+docs/GUIDE.md goes from a file of readings to a verdict; docs/MODEL.md has all of this.
 
 The last line on standard error begins with `msar: refused` or `msar: error` where there is no answer; the command bin/msar
 then ends with status 2 or 1. This program without it gives no status: it always ends with 0.
@@ -46,5 +46,5 @@ then ends with status 2 or 1. This program without it gives no status: it always
 }
 
 pub fn version() {
-    io::write_all(libc::STDOUT_FILENO, b"msar 0.3.0\n");
+    io::write_all(libc::STDOUT_FILENO, b"msar 0.4.0\n");
 }

@@ -25,6 +25,7 @@ pub enum Waiting {
     Keep,
     Separator,
     Digits,
+    Rule,
     Regime,
     Regimes,
     Order,
@@ -45,6 +46,8 @@ pub struct Options {
     pub separator: u8,
     pub separator_given: bool,
     pub digits: usize,
+    pub rule: usize,
+    pub rule_given: bool,
     pub regime: usize,
     pub regime_given: bool,
     pub regimes: usize,
@@ -72,6 +75,8 @@ fn nothing() -> Options {
         separator: b',',
         separator_given: false,
         digits: 0,
+        rule: 2,
+        rule_given: false,
         regime: 0,
         regime_given: false,
         regimes: 0,
@@ -218,6 +223,9 @@ fn valued(word: &[u8]) -> Waiting {
     if text_words::same(word, b"--digits") {
         return Waiting::Digits;
     }
+    if text_words::same(word, b"--rule") {
+        return Waiting::Rule;
+    }
     if text_words::same(word, b"--regime") {
         return Waiting::Regime;
     }
@@ -291,6 +299,7 @@ fn word_said(word: &[u8], i: usize, o: Options) -> Options {
         Waiting::Keep => value::keep(i, next),
         Waiting::Separator => value::separator(word, next),
         Waiting::Tol => value::tol(word, next),
+        Waiting::Rule => value::rule(word, next),
         Waiting::Digits => value::count(word, waiting, next),
         Waiting::Regime => value::count(word, waiting, next),
         Waiting::Regimes => value::count(word, waiting, next),
@@ -314,6 +323,21 @@ fn argument(i: usize, o: Options) -> Options {
 
 fn lacking(o: Options, what: &[u8]) -> Options {
     msar_say::error(what);
+    bad(o)
+}
+
+// The option that lacks its value is the last word.
+fn unvalued(o: Options) -> Options {
+    let count = os::arg_count();
+    if count == 0 {
+        return lacking(o, b"an option lacks its value");
+    }
+    let mut word = io::buffer();
+    let n = os::arg(count - 1, &mut word);
+    msar_say::error_of(
+        b"an option lacks its value (msar --help says what it takes): ",
+        &word[..n],
+    );
     bad(o)
 }
 
@@ -355,11 +379,18 @@ fn is_by_reading(command: Command) -> bool {
     }
 }
 
+// Whether the command takes a rule. `fit` takes none: its order is at least 1, where both rules give the same.
+fn is_by_rule(command: Command) -> bool {
+    match command {
+        Command::Loglike => true,
+        _ => is_by_reading(command),
+    }
+}
+
 fn is_table(command: Command) -> bool {
     match command {
         Command::Durations => true,
-        Command::Loglike => true,
-        _ => is_by_reading(command),
+        _ => is_by_rule(command),
     }
 }
 
@@ -381,10 +412,9 @@ fn has_heading(heading: Heading) -> bool {
     }
 }
 
-// The options that are for some commands alone.
-fn in_place(o: Options) -> Options {
+// The options that are for one command alone.
+fn for_one(o: Options) -> Options {
     let command = o.command;
-    let heading = o.heading;
     if o.for_fit & !is_fit(command) {
         return lacking(
             o,
@@ -399,6 +429,19 @@ fn in_place(o: Options) -> Options {
     }
     if o.regime_given & !is_verdict(command) {
         return lacking(o, b"--regime is for verdict alone");
+    }
+    o
+}
+
+// Those that are for some commands.
+fn for_some(o: Options) -> Options {
+    let command = o.command;
+    let heading = o.heading;
+    if o.rule_given & !is_by_rule(command) {
+        return lacking(
+            o,
+            b"--rule is for loglike, filter, smooth and verdict alone",
+        );
     }
     if (o.keep != 0) & !is_by_reading(command) {
         return lacking(o, b"--keep is for filter, smooth and verdict alone");
@@ -416,6 +459,14 @@ fn in_place(o: Options) -> Options {
         );
     }
     o
+}
+
+fn in_place(o: Options) -> Options {
+    let placed = for_one(o);
+    if !placed.good {
+        return placed;
+    }
+    for_some(placed)
 }
 
 fn complete_start(o: Options) -> Options {
@@ -444,7 +495,7 @@ fn complete(o: Options) -> Options {
     let command = o.command;
     let waiting = o.waiting;
     let Waiting::Nothing = waiting else {
-        return lacking(o, b"an option lacks its value");
+        return unvalued(o);
     };
     match command {
         Command::Nothing => lacking(o, b"no command (msar --help says which there are)"),

@@ -77,6 +77,7 @@ fn outside(word: &[u8], waiting: Waiting) {
                 word,
             )
         }
+        Waiting::Rule => msar_say::error_of(b"--rule takes 1 or 2, and not ", word),
         Waiting::Regime => {
             msar_say::error_of(
                 b"--regime takes a regime's number, from 0 on, and not ",
@@ -111,6 +112,7 @@ fn outside(word: &[u8], waiting: Waiting) {
 fn is_inside(n: usize, waiting: Waiting) -> bool {
     match waiting {
         Waiting::Digits => (n >= 1) & (n <= 17),
+        Waiting::Rule => (n >= 1) & (n <= 2),
         Waiting::Regime => n < 16,
         Waiting::Regimes => (n >= 2) & (n <= 16),
         Waiting::Order => (n >= 1) & (n <= 7),
@@ -123,6 +125,10 @@ fn kept(n: usize, waiting: Waiting, o: Options) -> Options {
     let mut next = o;
     match waiting {
         Waiting::Digits => next.digits = n,
+        Waiting::Rule => {
+            next.rule = n;
+            next.rule_given = true;
+        }
         Waiting::Regime => {
             next.regime = n;
             next.regime_given = true;
@@ -158,4 +164,13 @@ pub fn count(word: &[u8], waiting: Waiting, o: Options) -> Options {
             kept(n, waiting, o)
         }
     }
+}
+
+// The rule decides which numbers come out, so a second one is not passed over.
+pub fn rule(word: &[u8], o: Options) -> Options {
+    if o.rule_given {
+        msar_say::error(b"--rule is given twice");
+        return bad(o);
+    }
+    count(word, Waiting::Rule, o)
 }

@@ -94,35 +94,34 @@ pub fn durations(s: MsarSpec, q: MsarParams, digits: usize) {
 
 // ---- on a model and a series
 
-// What order 0 means in this version, said before the answer.
-fn note_order(order: usize, smoothed: bool) {
-    if order != 0 {
+// What rule 1 means at order 0, said before the answer. From order 1 on both rules give the same.
+fn note_rule(order: usize, rule: usize, smoothed: bool) {
+    if (order != 0) | (rule != 1) {
         return;
     }
     if smoothed {
         msar_say::note(
-            b"at order 0 this version does not look at the regime before, and the smoothed rows do not add up to 1: take order 1, with `ar 0` for no lag",
+            b"at order 0 --rule 1 does not look at the regime before, and the smoothed rows do not add up to 1: leave out --rule 1",
         );
         return;
     }
-    msar_say::note(
-        b"at order 0 this version does not look at the regime before: take order 1, with `ar 0` for no lag",
-    );
+    msar_say::note(b"at order 0 --rule 1 does not look at the regime before: leave out --rule 1");
 }
 
 pub fn loglike(
     s: MsarSpec,
     y: &[f64],
     q: MsarParams,
+    rule: usize,
     numbers: &[u64],
     readings: usize,
     digits: usize,
     work: &mut [f64],
 ) {
-    let answer = calls::loglike(s, y, q, work);
+    let answer = calls::loglike(s, y, q, rule, work);
     let check = answer.check;
     if has_passed(check, s, q, y, numbers, readings) {
-        note_order(s.order, false);
+        note_rule(s.order, rule, false);
         table::loglike(readings, answer.loglik, digits);
     }
 }
@@ -131,6 +130,7 @@ pub fn filter(
     s: MsarSpec,
     y: &[f64],
     q: MsarParams,
+    rule: usize,
     numbers: &[u64],
     texts: &[u8],
     readings: usize,
@@ -138,10 +138,10 @@ pub fn filter(
     work: &mut [f64],
     filtered: &mut [f64],
 ) {
-    let answer = calls::filter(s, y, q, work, filtered);
+    let answer = calls::filter(s, y, q, rule, work, filtered);
     let check = answer.check;
     if has_passed(check, s, q, y, numbers, readings) {
-        note_order(s.order, false);
+        note_rule(s.order, rule, false);
         table::probabilities(y, s.order, filtered, s.k_regimes, texts, style);
     }
 }
@@ -150,6 +150,7 @@ pub fn smooth(
     s: MsarSpec,
     y: &[f64],
     q: MsarParams,
+    rule: usize,
     numbers: &[u64],
     texts: &[u8],
     readings: usize,
@@ -158,10 +159,10 @@ pub fn smooth(
     filtered: &mut [f64],
     smoothed: &mut [f64],
 ) {
-    let answer = calls::smooth(s, y, q, work, filtered, smoothed);
+    let answer = calls::smooth(s, y, q, rule, work, filtered, smoothed);
     let check = answer.check;
     if has_passed(check, s, q, y, numbers, readings) {
-        note_order(s.order, true);
+        note_rule(s.order, rule, true);
         table::probabilities(y, s.order, smoothed, s.k_regimes, texts, style);
     }
 }

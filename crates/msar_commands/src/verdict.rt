@@ -198,11 +198,11 @@ fn written(
     );
 }
 
-// At order 0 the smoothed numbers are no probabilities in this version.
-fn is_possible(s: MsarSpec, asked: Asked) -> bool {
-    if s.order == 0 {
+// At order 0 the smoothed numbers of rule 1 are no probabilities.
+fn is_possible(s: MsarSpec, rule: usize, asked: Asked) -> bool {
+    if (s.order == 0) & (rule == 1) {
         msar_say::error(
-            b"there is no verdict at order 0 in this version, whose smoothed rows do not add up to 1 there: take order 1, with `ar 0` for no lag",
+            b"there is no verdict at order 0 with --rule 1, whose smoothed rows do not add up to 1 there: leave out --rule 1",
         );
         return false;
     }
@@ -217,6 +217,7 @@ pub fn verdict(
     s: MsarSpec,
     y: &[f64],
     q: MsarParams,
+    rule: usize,
     numbers: &[u64],
     texts: &[u8],
     readings: usize,
@@ -226,10 +227,10 @@ pub fn verdict(
     filtered: &mut [f64],
     smoothed: &mut [f64],
 ) {
-    if !is_possible(s, asked) {
+    if !is_possible(s, rule, asked) {
         return;
     }
-    let answer = calls::smooth(s, y, q, work, filtered, smoothed);
+    let answer = calls::smooth(s, y, q, rule, work, filtered, smoothed);
     let check = answer.check;
     if has_passed(check, s, q, y, numbers, readings) {
         written(s, y, q, numbers, texts, asked, style, smoothed);

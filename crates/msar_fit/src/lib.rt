@@ -16,6 +16,9 @@ use refusal::Refusal;
 use spec::MsarSpec;
 use text_words::least;
 
+// The rule of a log-likelihood beside a fit. The fit has passed its checks, so the order is at least 1, where both rules give the same.
+const RULE: usize = 2;
+
 // How the fit is to be made.
 pub struct Ways {
     pub max_iter: usize,
@@ -91,7 +94,7 @@ fn note_fall(began: f64, ended: f64) {
 
 // The log-likelihood of the parameters; `otherwise` where there is none.
 fn loglik_at(s: MsarSpec, y: &[f64], q: MsarParams, otherwise: f64, work: &mut [f64]) -> f64 {
-    let answer = calls::loglike(s, y, q, work);
+    let answer = calls::loglike(s, y, q, RULE, work);
     let check = answer.check;
     let loglik = answer.loglik;
     if best::has_passed(check) {
@@ -125,7 +128,7 @@ fn is_astray(check: Check, s: MsarSpec, y: &[f64], q: MsarParams, work: &mut [f6
     if best::number_of(check) != 23 {
         return false;
     }
-    let answer = calls::loglike(s, y, q, work);
+    let answer = calls::loglike(s, y, q, RULE, work);
     let start = answer.check;
     best::has_passed(start)
 }

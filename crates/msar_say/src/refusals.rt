@@ -235,6 +235,7 @@ fn of_run(out: &mut Text, n: usize, r: Refusal) -> usize
 {
     match r {
         Refusal::Singular(which, column) => of_system(out, n, which, column),
+        Refusal::OtherRule => put::bytes(out, n, b"there is no such rule: take 1 or 2"),
         Refusal::OrderZero => put::bytes(
             out,
             n,

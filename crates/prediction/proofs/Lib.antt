@@ -2,5 +2,7 @@
 mod Places
 -- the labels of a window, and one turn more of a loop
 mod Turns
+-- which rule mixes at which order
+pub mod Rules
 -- what the rows hold
 pub mod Predicted

@@ -8,7 +8,7 @@ use Rattle.number.proofs.Table.{cell-below}
 use Rattle.window.specs.Shape.{Shape}
 
 -- two labels in the transition table
-cells-below : (k i j : ℕ) → k ≤ 16 → i < k → j < k → (i * k + j < 256) × (j * k + i < 256)
+pub cells-below : (k i j : ℕ) → k ≤ 16 → i < k → j < k → (i * k + j < 256) × (j * k + i < 256)
 cells-below k i j h hi hj = (cell-below k i j h hi hj, cell-below k j i h hj hi)
 
 -- the newest two labels of window a

@@ -17,7 +17,7 @@ use Rattle.window.proofs.Windows.{label-labels-any, label-below}
 use Rattle.params.specs.declared.MsarParams.{MsarParams}
 use Rattle.params.specs.Parameters.{P}
 use Rattle.prediction.specs.Prediction.{firstTo, firstPrediction}
-use Rattle.prediction.specs.Steps.{firstAt, stepAt, sumBefore, laterAt}
+use Rattle.prediction.specs.Steps.{firstAt, stepAt, sumBefore, steppedAt}
 
 -- the labels of a window are below k
 pub label-small : {k p a l s : ℕ} → WindowNumber k p a → s ≡ label (labels k (suc p) a) l → l ≤ p → s < k
@@ -59,18 +59,18 @@ module _ (q : MsarParams) (shares transition : List Float) (a k p : ℕ) (ek : q
 
 -- ---- a later row: block c holds the windows with c for their labels before the newest
 
-pub later-more : (k power : ℕ) (steps previous row₀ : List Float) (c : ℕ) {sum : Float} {row row′ : List Float}
-    → row ≡ fillAt 0 (laterAt k power steps previous) (c * k) row₀ → c * k ≤ length row₀ → sum ≡ sumBefore k power previous c
+pub stepped-more : (k power : ℕ) (steps previous row₀ : List Float) (c : ℕ) {sum : Float} {row row′ : List Float}
+    → row ≡ fillAt 0 (steppedAt k power steps previous) (c * k) row₀ → c * k ≤ length row₀ → sum ≡ sumBefore k power previous c
     → row′ ≡ fillAt (c * k) (λ s. steps ! (c * k + s) ⊗ sum) k row
-    → row′ ≡ fillAt 0 (laterAt k power steps previous) ((c + 1) * k) row₀
-unfolding laterAt
-later-more k power steps previous row₀ c {sum} {row} e h es e′ =
+    → row′ ≡ fillAt 0 (steppedAt k power steps previous) ((c + 1) * k) row₀
+unfolding steppedAt
+stepped-more k power steps previous row₀ c {sum} {row} e h es e′ =
     let n : (c + 1) * k ≡ c * k + k = ap (λ (i : ℕ). i * k) (add-one c) ∙ suc-mul c k in
     e′
     ∙ rw (← n, zero-add) at
     (fillAt-join
     0
-    (laterAt k power steps previous)
+    (steppedAt k power steps previous)
     (λ s. steps ! (c * k + s) ⊗ sum)
     (c * k)
     k

@@ -30,6 +30,7 @@ use Rattle.stationary.proofs.stationary_shares as stationary·stationary_shares
 use Rattle.binding.proofs.bind as binding·bind
 use Rattle.binding.proofs.memory as binding·memory
 use Rattle.binding.proofs.parameters as binding·parameters
+use Rattle.binding.proofs.asked as binding·asked
 use Rattle.calls.proofs.loglike as calls·loglike
 use Rattle.calls.proofs.filter as calls·filter
 use Rattle.calls.proofs.smooth as calls·smooth
@@ -65,31 +66,32 @@ use Rattle.promises.proofs.Contracts.{entry-point}
 pub entry-points : (M : Type 1) → EntryPoints M
 entry-points M =
     record {
-      msar-loglike = entry-point (λ κs a r ws e. (refl, λ i. (tt, (tt, (tt, (tt, (tt, (tt, (tt, (e i .work, (e i .whole, (e i .real, tt)))))))))))) c·loglike.Met.met;
-      msar-filter = entry-point (λ κs a r ws e. (refl, λ i. (tt, (tt, (tt, (tt, (tt, (tt, (tt, (e i .work, (e i .filtered, (e i .whole, (e i .real, tt))))))))))))) c·filter.Met.met;
-      msar-smooth = entry-point (λ κs a r ws e. (refl, λ i. (tt, (tt, (tt, (tt, (tt, (tt, (tt, (e i .work, (e i .filtered, (e i .smoothed, (e i .whole, (e i .real, tt)))))))))))))) c·smooth.Met.met;
+      msar-loglike = entry-point (λ κs a r ws e. (refl, λ i. (tt, (tt, (tt, (tt, (tt, (tt, (tt, (e i .work, (tt, (e i .whole, (e i .real, tt))))))))))))) c·loglike.Met.met;
+      msar-filter = entry-point (λ κs a r ws e. (refl, λ i. (tt, (tt, (tt, (tt, (tt, (tt, (tt, (e i .work, (e i .filtered, (tt, (e i .whole, (e i .real, tt)))))))))))))) c·filter.Met.met;
+      msar-smooth = entry-point (λ κs a r ws e. (refl, λ i. (tt, (tt, (tt, (tt, (tt, (tt, (tt, (e i .work, (e i .filtered, (e i .smoothed, (tt, (e i .whole, (e i .real, tt))))))))))))))) c·smooth.Met.met;
       msar-fit = entry-point (λ κs a r ws e. (refl, λ i. (tt, (tt, (tt, (tt, (tt, (tt, (tt, (e i .work, (e i .smoothed, (tt, (tt, (e i .fitted, (e i .whole, (e i .real, tt)))))))))))))))) c·fit.Met.met;
       msar-windows = entry-point (λ κs a r ws e. (refl, λ i. (tt, (tt, (e i .whole, (e i .real, tt)))))) c·windows.Met.met;
       msar-check = entry-point (λ κs a r ws e. (refl, λ i. (tt, (tt, (e i .whole, (e i .real, tt)))))) c·check.Met.met;
       msar-durations = entry-point (λ κs a r ws e. (refl, λ i. (tt, (tt, (e i .values, (e i .whole, (e i .real, tt))))))) c·durations.Met.met;
       msar-shares = entry-point (λ κs a r ws e. (refl, λ i. (tt, (tt, (e i .values, (e i .whole, (e i .real, tt))))))) c·shares.Met.met;
       msar-matches = entry-point (λ κs a r ws e. (e, refl)) c·matches.Met.met;
-      loglike = entry-point (λ κs a r ws e. (ap (λ (x : Outcome). x .answer) e, λ i. (tt, (tt, (tt, (e i .work, tt)))))) calls·loglike.Met.met;
-      filter = entry-point (λ κs a r ws e. (ap (λ (x : Outcome). x .answer) e, λ i. (tt, (tt, (tt, (e i .work, (e i .filtered, tt))))))) calls·filter.Met.met;
-      smooth = entry-point (λ κs a r ws e. (ap (λ (x : Outcome). x .answer) e, λ i. (tt, (tt, (tt, (e i .work, (e i .filtered, (e i .smoothed, tt)))))))) calls·smooth.Met.met;
+      loglike = entry-point (λ κs a r ws e. (ap (λ (x : Outcome). x .answer) e, λ i. (tt, (tt, (tt, (tt, (e i .work, tt))))))) calls·loglike.Met.met;
+      filter = entry-point (λ κs a r ws e. (ap (λ (x : Outcome). x .answer) e, λ i. (tt, (tt, (tt, (tt, (e i .work, (e i .filtered, tt)))))))) calls·filter.Met.met;
+      smooth = entry-point (λ κs a r ws e. (ap (λ (x : Outcome). x .answer) e, λ i. (tt, (tt, (tt, (tt, (e i .work, (e i .filtered, (e i .smoothed, tt))))))))) calls·smooth.Met.met;
       fit = entry-point (λ κs a r ws e. (ap (λ (x : FitOutcome). x .answer) e, λ i. (tt, (tt, (tt, (tt, (tt, (e i .work, (e i .smoothed, tt))))))))) fit·fit.Met.met;
       bind = entry-point (λ κs a r ws e. (e, refl)) binding·bind.Met.met;
       memory = entry-point (λ κs a r ws e. (e, refl)) binding·memory.Met.met;
       parameters = entry-point (λ κs a r ws e. (e, refl)) binding·parameters.Met.met;
+      asked = entry-point (λ κs a r ws e. (e, refl)) binding·asked.Met.met;
       record-new = entry-point (λ κs a r ws e. (λ i. record { check = e .0 i; model = record { series = e .1 i; spec = e .2 i } }, refl)) record·new.Met.met;
-      record-loglike = entry-point (λ κs a r ws e. (ap (λ (x : Outcome). x .answer) e, λ i. (tt, (tt, (e i .work, tt))))) record·loglike.Met.met;
-      record-filter = entry-point (λ κs a r ws e. (ap (λ (x : Outcome). x .answer) e, λ i. (tt, (tt, (e i .work, (e i .filtered, tt)))))) record·filter.Met.met;
-      record-smooth = entry-point (λ κs a r ws e. (ap (λ (x : Outcome). x .answer) e, λ i. (tt, (tt, (e i .work, (e i .filtered, (e i .smoothed, tt))))))) record·smooth.Met.met;
+      record-loglike = entry-point (λ κs a r ws e. (ap (λ (x : Outcome). x .answer) e, λ i. (tt, (tt, (tt, (e i .work, tt)))))) record·loglike.Met.met;
+      record-filter = entry-point (λ κs a r ws e. (ap (λ (x : Outcome). x .answer) e, λ i. (tt, (tt, (tt, (e i .work, (e i .filtered, tt))))))) record·filter.Met.met;
+      record-smooth = entry-point (λ κs a r ws e. (ap (λ (x : Outcome). x .answer) e, λ i. (tt, (tt, (tt, (e i .work, (e i .filtered, (e i .smoothed, tt)))))))) record·smooth.Met.met;
       record-fit = entry-point (λ κs a r ws e. (ap (λ (x : FitOutcome). x .answer) e, λ i. (tt, (tt, (tt, (tt, (e i .work, (e i .smoothed, tt)))))))) record·fit.Met.met;
       check-of = entry-point (λ κs a r ws e. (e, refl)) record·check_of.Met.met;
-      loglike-of = entry-point (λ κs a r ws e. (ap (λ (x : Outcome). x .answer) e, λ i. (tt, (tt, (tt, (e i .work, tt)))))) record·loglike_of.Met.met;
-      filter-of = entry-point (λ κs a r ws e. (ap (λ (x : Outcome). x .answer) e, λ i. (tt, (tt, (tt, (e i .work, (e i .filtered, tt))))))) record·filter_of.Met.met;
-      smooth-of = entry-point (λ κs a r ws e. (ap (λ (x : Outcome). x .answer) e, λ i. (tt, (tt, (tt, (e i .work, (e i .filtered, (e i .smoothed, tt)))))))) record·smooth_of.Met.met;
+      loglike-of = entry-point (λ κs a r ws e. (ap (λ (x : Outcome). x .answer) e, λ i. (tt, (tt, (tt, (tt, (e i .work, tt))))))) record·loglike_of.Met.met;
+      filter-of = entry-point (λ κs a r ws e. (ap (λ (x : Outcome). x .answer) e, λ i. (tt, (tt, (tt, (tt, (e i .work, (e i .filtered, tt)))))))) record·filter_of.Met.met;
+      smooth-of = entry-point (λ κs a r ws e. (ap (λ (x : Outcome). x .answer) e, λ i. (tt, (tt, (tt, (tt, (e i .work, (e i .filtered, (e i .smoothed, tt))))))))) record·smooth_of.Met.met;
       fit-of = entry-point (λ κs a r ws e. (ap (λ (x : FitOutcome). x .answer) e, λ i. (tt, (tt, (tt, (tt, (tt, (e i .work, (e i .smoothed, tt))))))))) record·fit_of.Met.met;
       expanded-states = entry-point (λ κs a r ws e. (e, refl)) spec·expanded_states.Met.met;
       new = entry-point (λ κs a r ws e. (e, refl)) params·new.Met.met;

@@ -2,7 +2,7 @@
 -- not, where no share is. Assumes nothing.
 use mathlib.Core.Path.{_≡_, sym, ap₂, subst, _∙_}
 use mathlib.Core.Bool.{true, not, _&&_}
-use mathlib.Core.List.{List}
+use mathlib.Core.List.{List, [], _∷_}
 use mathlib.Core.Logic.{⊎-elim}
 use Prim.Native.Nat.{ℕ, zero, suc, _+_, _*_, _^_, _<_}
 use native.Mathlib.Nat.{mod-lt, eq-or-lt-of-le, le-of-suc-le-suc, not-suc-le-zero}
@@ -35,7 +35,10 @@ use Rattle.params.specs.Checks.{slack, isProbability, meanCheck, entryCheck, pa
 use Rattle.rows.specs.Rows.{entry, probability}
 use Rattle.rows.proofs.Rows.{row-at}
 use Rattle.density.specs.Density.{density, logDensity, normalExponent}
-use Rattle.prediction.specs.Prediction.{firstTo, firstPrediction, laterPrediction}
+use Rattle.prediction.specs.Prediction.{firstTo, firstPrediction, mixes, laterPrediction}
+use Rattle.prediction.specs.declared.Rule.{Rule}
+use Rattle.prediction.proofs.Rules.{by-test, mixes-at-zero}
+use Rattle.prediction.proofs.Predicted.{one-label-below}
 use Rattle.filter.specs.Filter.{weight, total, updated, predictedRow, filteredRow, likelihood, likelihoodCheck}
 use Rattle.filter.proofs.Weights.{weight-at}
 use Rattle.promises.specs.Demand.{NotBelow}
@@ -82,7 +85,7 @@ density-not-below q y t w = exp-not-below (_ ⊖ _) (sub-fits binary64 _ _)
 
 -- ---- predictions
 
-module _ (q : MsarParams) (pos : 0 < k q) (steps : (i j : ℕ) → i < k q → j < k q → NotBelow (P q i j)) where
+module _ (rule : Rule) (q : MsarParams) (pos : 0 < k q) (steps : (i j : ℕ) → i < k q → j < k q → NotBelow (P q i j)) where
   -- the labels of a window, past its end too
   label-within : (a l : ℕ) → a < k q ^ suc (p q) → label (labels (k q) (suc (p q)) a) l < k q
   label-within a l h = rw (label-labels-any (k q) pos (suc (p q)) a l h) (mod-lt _ pos)
@@ -101,16 +104,20 @@ module _ (q : MsarParams) (pos : 0 < k q) (steps : (i j : ℕ) → i < k q → j
 
   -- a later one, from a row of which none is
   pub later-not-below : (row : List Float) → NoneBelow (k q) (p q) (_!_ row) → (a : ℕ) → a < k q ^ suc (p q)
-      → NotBelow (laterPrediction q row (labels (k q) (suc (p q)) a))
+      → NotBelow (laterPrediction rule q row (labels (k q) (suc (p q)) a))
   unfolding laterPrediction
-  later-not-below row none a h =
-      product-not-below _ _ (steps _ _ (label-within a 0 h) (label-within a 1 h))
-      (sums-not-below (λ x. entry (k q) row (predecessor (labels (k q) (suc (p q)) a) x)) (k q) (λ x l. none _ (predecessor-below (k q) (p q) pos a x l)))
+  later-not-below row none a h = by-test (mixes rule (p q))
+      (λ m. rw m
+      (sums-not-below (λ x. P q (label (labels (k q) (suc (p q)) a) 0) x ⊗ entry (k q) row (x ∷ [])) (k q)
+      (λ x l. product-not-below _ _ (steps _ x (label-within a 0 h) l) (none _ (one-label-below (k q) (p q) x (mixes-at-zero rule (p q) m) l)))))
+      (λ m. rw m
+      (product-not-below _ _ (steps _ _ (label-within a 0 h) (label-within a 1 h))
+      (sums-not-below (λ x. entry (k q) row (predecessor (labels (k q) (suc (p q)) a) x)) (k q) (λ x l. none _ (predecessor-below (k q) (p q) pos a x l)))))
 
--- ---- the rows, from any shares
+-- ---- the rows, from any shares, by any rule
 
-module _ (q : MsarParams) (y shares : List Float) (shape : Shape (k q) (p q)) (passed : parameterCheck q ≡ Passed)
-    (given : (s : ℕ) → s < k q → NotBelow (shares ! s)) (n : ℕ) (usual : each n (likelihoodCheck q y shares) ≡ Passed) where
+module _ (rule : Rule) (q : MsarParams) (y shares : List Float) (shape : Shape (k q) (p q)) (passed : parameterCheck q ≡ Passed)
+    (given : (s : ℕ) → s < k q → NotBelow (shares ! s)) (n : ℕ) (usual : each n (likelihoodCheck rule q y shares) ≡ Passed) where
   some : 0 < k q
   some = omega (arith, shape .low)
 
@@ -118,33 +125,33 @@ module _ (q : MsarParams) (y shares : List Float) (shape : Shape (k q) (p q)) (p
   at i a = density q y (timeOf (p q) (record { 0 = i })) (labels (k q) (suc (p q)) a)
 
   predicted : ℕ → ℕ → Float
-  predicted i a = predictedRow q y shares i ! a
+  predicted i a = predictedRow rule q y shares i ! a
 
-  weights-are : (i a : ℕ) → a < k q ^ suc (p q) → weight q y i (predictedRow q y shares i) (labels (k q) (suc (p q)) a) ≡ predicted i a ⊗ at i a
+  weights-are : (i a : ℕ) → a < k q ^ suc (p q) → weight q y i (predictedRow rule q y shares i) (labels (k q) (suc (p q)) a) ≡ predicted i a ⊗ at i a
   unfolding at predicted
-  weights-are i a h = sym (weight-at q y i (predictedRow q y shares i) some a h)
+  weights-are i a h = sym (weight-at q y i (predictedRow rule q y shares i) some a h)
 
-  total-is : (i : ℕ) → total q y i (predictedRow q y shares i) ≡ sumUp (λ a. predicted i a ⊗ at i a) (k q ^ suc (p q))
+  total-is : (i : ℕ) → total q y i (predictedRow rule q y shares i) ≡ sumUp (λ a. predicted i a ⊗ at i a) (k q ^ suc (p q))
   unfolding total
   total-is i = sum-ext _ _ (k q ^ suc (p q)) (weights-are i)
 
-  is-usable : (i : ℕ) → i < n → usable (likelihood q y shares i) ≡ true
+  is-usable : (i : ℕ) → i < n → usable (likelihood rule q y shares i) ≡ true
   unfolding likelihoodCheck
-  is-usable i h = not-false _ (untrue _ _ (each-passed (likelihoodCheck q y shares) n usual i h))
+  is-usable i h = not-false _ (untrue _ _ (each-passed (likelihoodCheck rule q y shares) n usual i h))
 
-  rows : Rows (k q) (p q) n predicted at (filteredRow q y shares)
+  rows : Rows (k q) (p q) n predicted at (filteredRow rule q y shares)
   unfolding at predicted predictedRow filteredRow updated likelihood
   rows =
       record {
         updated = λ i a h. row-at (k q) (p q) _ a h ∙ ap₂ (λ (x t : Float). x ⊘ t) (weights-are i a h) (total-is i);
         likelihoods = λ i h. subst (λ (x : Float). usable x ≡ true) (total-is i) (is-usable i h);
         densities = λ i a _. density-not-below q y _ _;
-        first = λ a h. subst NotBelow (sym (row-at (k q) (p q) (firstPrediction q shares) a h)) (first-not-below q some (steps-not-below q passed) shares given a h);
+        first = λ a h. subst NotBelow (sym (row-at (k q) (p q) (firstPrediction q shares) a h)) (first-not-below rule q some (steps-not-below q passed) shares given a h);
         later =
             λ i none a h.
-            subst NotBelow (sym (row-at (k q) (p q) (laterPrediction q (filteredRow q y shares i)) a h))
-            (later-not-below q some (steps-not-below q passed) (filteredRow q y shares i) none a h);
+            subst NotBelow (sym (row-at (k q) (p q) (laterPrediction rule q (filteredRow rule q y shares i)) a h))
+            (later-not-below rule q some (steps-not-below q passed) (filteredRow rule q y shares i) none a h);
       }
 
-  pub filtered-near-one : (i : ℕ) → i < n → NearOne (k q) (k q ^ suc (p q)) (probability (k q) (p q) (filteredRow q y shares i))
+  pub filtered-near-one : (i : ℕ) → i < n → NearOne (k q) (k q ^ suc (p q)) (probability (k q) (p q) (filteredRow rule q y shares i))
   filtered-near-one = rows-near-one some (shape .few) rows

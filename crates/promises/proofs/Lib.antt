@@ -1,6 +1,8 @@
 -- document 01's twelve proved examples, and before them the fit of P9
 pub mod ConstantSeries
 pub mod Twelve
+-- the two rules of a later prediction
+pub mod Rules
 -- ---- demand 3, of the tables that the calls write. In the order to read:
 -- what sums, products, quotients and exponentials of numbers not below zero are
 pub mod Signs

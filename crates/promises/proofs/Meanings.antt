@@ -19,6 +19,7 @@ use Rattle.params.specs.Built.{builtAfter, builtOf}
 use Rattle.params.proofs.Again.{again}
 use Rattle.linsolve.proofs.Stopped.{solve-named, solve-names}
 use Rattle.binding.specs.Binding.{admittedCheck, memoryCheck, smoothNeed, tableNeed}
+use Rattle.prediction.specs.declared.Rule.the-variants.{One}
 use Rattle.calls.specs.Calls.{runCheck}
 use Rattle.fit.specs.declared.Course.{Course}
 use Rattle.fit.specs.declared.Course.the-variants.{Going, Converged, Refused}
@@ -44,8 +45,8 @@ module _ (maxIter : ℕ) where
 
   ended-within : (y : List Float) (start q : MsarParams) (c : Course) → Kept start maxIter c q → endedAt y maxIter q c .iterations ≤ maxIter
   unfolding closed
-  ended-within y start q Going k = after-within (runCheck q y) q _ maxIter _ (omega arith)
-  ended-within y start q (Converged n) k = after-within (runCheck q y) q _ n _ (k .1)
+  ended-within y start q Going k = after-within (runCheck One q y) q _ maxIter _ (omega arith)
+  ended-within y start q (Converged n) k = after-within (runCheck One q y) q _ n _ (k .1)
   ended-within y start q (Refused r) k = omega arith
 
   called-within : (c : Check) (q : MsarParams) (work smoothed : List Float) (run : FitOutcome) → (c ≡ Passed → run .answer .iterations ≤ maxIter)

@@ -20,6 +20,8 @@ use Rattle.params.specs.Checks.{parameterCheck}
 use Rattle.stationary.specs.Stationary.{startShares}
 use Rattle.binding.specs.Binding.{boundCheck, paramsCheck, admittedCheck}
 use Rattle.rows.specs.Rows.{probability, resultAt}
+use Rattle.prediction.specs.Prediction.{ruleOf}
+use Rattle.prediction.specs.declared.Rule.{Rule}
 use Rattle.filter.specs.Filter.{filteredRow, rowCount, filterCheck}
 use Rattle.calls.specs.Calls.{Outcome, runCheck, runAnswer, called, filteredTable, filterCall, smoothCall}
 use Rattle.calls.proofs.Admitted.{is-admitted}
@@ -54,42 +56,42 @@ module _ (S : MsarSpec) (y : List Float) (q : MsarParams) (own : Check) (passed 
 
   -- ---- the table of a run that passed
 
-  module _ (ran : runCheck q y ≡ Passed) (given : (s : ℕ) → s < k q → NotBelow (startShares q .values ! s)) (found : List Float) where
+  module _ (rule : Rule) (ran : runCheck rule q y ≡ Passed) (given : (s : ℕ) → s < k q → NotBelow (startShares q .values ! s)) (found : List Float) where
     place : (i s : ℕ) → i < rowCount q y → s < k q
-        → probability (k q) (p q) (filteredRow q y (startShares q .values) i) s ≡ cell (k q) (filteredTable q y found) i s
+        → probability (k q) (p q) (filteredRow rule q y (startShares q .values) i) s ≡ cell (k q) (filteredTable rule q y found) i s
     unfolding filteredTable resultAt
     place i s h l =
         rw ran
         (sym
-        (fill-at (resultAt (k q) (p q) (filteredRow q y (startShares q .values))) (rowCount q y * k q) found refl (i * k q + s) (digits-lt h l)
-        ∙ ap₂ (λ (r t : ℕ). probability (k q) (p q) (filteredRow q y (startShares q .values) r) t) (digits-div i l) (digits-mod i l)))
+        (fill-at (resultAt (k q) (p q) (filteredRow rule q y (startShares q .values))) (rowCount q y * k q) found refl (i * k q + s) (digits-lt h l)
+        ∙ ap₂ (λ (r t : ℕ). probability (k q) (p q) (filteredRow rule q y (startShares q .values) r) t) (digits-div i l) (digits-mod i l)))
 
-    pub filtered-table : Demand3 q y (filteredTable q y found)
+    pub filtered-table : Demand3 q y (filteredTable rule q y found)
     unfolding runCheck filterCheck
     filtered-table i h =
         near-same _ _ _ _ (λ s l. place i s h l)
-        (filtered-near-one q y (startShares q .values) shape parameters given (rowCount q y) (both (startShares q .check) ran .1) i h)
+        (filtered-near-one rule q y (startShares q .values) shape parameters given (rowCount q y) (both (startShares q .check) ran .1) i h)
 
 -- ---- demand 3, of a call whatever it checks of its own, and whatever its run leaves beside the filtered table
 
-call-keeps : (S : MsarSpec) (y : List Float) (q : MsarParams) (own : Check) (work found smoothed : List Float) (run : Outcome)
-    → run .answer ≡ runAnswer q y → run .filtered ≡ filteredTable q y found
+call-keeps : (S : MsarSpec) (y : List Float) (rule : Rule) (q : MsarParams) (own : Check) (work found smoothed : List Float) (run : Outcome)
+    → run .answer ≡ runAnswer rule q y → run .filtered ≡ filteredTable rule q y found
     → Asked q (called (admittedCheck S y own q) work found smoothed run)
     → Demand3 q y (called (admittedCheck S y own q) work found smoothed run .filtered)
-call-keeps S y q own work found smoothed run answer table asked =
+call-keeps S y rule q own work found smoothed run answer table asked =
     let c = was-admitted (admittedCheck S y own q) work found smoothed run (asked .answers) in
-    let ran = run-says q y answer (sym (ap (λ (o : Outcome). o .answer .check) (c .1)) ∙ asked .answers) in
-    subst (Demand3 q y) (sym (ap (λ (o : Outcome). o .filtered) (c .1) ∙ table)) (filtered-table S y q own (c .0) ran (asked .shares) found)
+    let ran = run-says rule q y answer (sym (ap (λ (o : Outcome). o .answer .check) (c .1)) ∙ asked .answers) in
+    subst (Demand3 q y) (sym (ap (λ (o : Outcome). o .filtered) (c .1) ∙ table)) (filtered-table S y q own (c .0) rule ran (asked .shares) found)
 
-of-filter : (S : MsarSpec) (y : List Float) (q : MsarParams) (work filtered : List Float)
-    → Asked q (filterCall S y q work filtered) → Demand3 q y (filterCall S y q work filtered .filtered)
+of-filter : (S : MsarSpec) (y : List Float) (q : MsarParams) (rule : ℕ) (work filtered : List Float)
+    → Asked q (filterCall S y q rule work filtered) → Demand3 q y (filterCall S y q rule work filtered .filtered)
 unfolding filterCall
-of-filter S y q work filtered = call-keeps S y q _ work filtered [] _ refl refl
+of-filter S y q rule work filtered = call-keeps S y (ruleOf rule) q _ work filtered [] _ refl refl
 
-of-smooth : (S : MsarSpec) (y : List Float) (q : MsarParams) (work filtered smoothed : List Float)
-    → Asked q (smoothCall S y q work filtered smoothed) → Demand3 q y (smoothCall S y q work filtered smoothed .filtered)
+of-smooth : (S : MsarSpec) (y : List Float) (q : MsarParams) (rule : ℕ) (work filtered smoothed : List Float)
+    → Asked q (smoothCall S y q rule work filtered smoothed) → Demand3 q y (smoothCall S y q rule work filtered smoothed .filtered)
 unfolding smoothCall
-of-smooth S y q work filtered smoothed = call-keeps S y q _ work filtered smoothed _ refl refl
+of-smooth S y q rule work filtered smoothed = call-keeps S y (ruleOf rule) q _ work filtered smoothed _ refl refl
 
 -- ---- from C
 
@@ -108,6 +110,6 @@ demand =
     record {
       filter = of-filter;
       smooth = of-smooth;
-      msar-filter = λ k order ar variance y counts numbers work filtered a. of-filter _ y _ work filtered (from-c _ _ a);
-      msar-smooth = λ k order ar variance y counts numbers work filtered smoothed a. of-smooth _ y _ work filtered smoothed (from-c _ _ a);
+      msar-filter = λ k order ar variance y counts numbers rule work filtered a. of-filter _ y _ rule work filtered (from-c _ _ a);
+      msar-smooth = λ k order ar variance y counts numbers rule work filtered smoothed a. of-smooth _ y _ rule work filtered smoothed (from-c _ _ a);
     }

@@ -25,7 +25,7 @@ use Rattle.stationary.specs.Stationary.{sharesOf}
 use Rattle.stationary.specs.declared.Shares.{Shares}
 use Rattle.stationary.proofs.Examples as shares
 use Rattle.rows.specs.Rows.{rowOf, probability}
-use Rattle.prediction.specs.Prediction.{firstTo, firstPrediction, laterPrediction}
+use Rattle.prediction.specs.Prediction.{firstTo, firstPrediction, mixes, laterPrediction}
 use Rattle.filter.specs.Filter.{predictedRow}
 use Rattle.em_sample_variance.proofs.Examples as variances
 use Rattle.fit.specs.Calls.{FitOutcome}
@@ -97,9 +97,9 @@ twelve =
       p2 = unfold tab labels number successors predecessors in (refl, refl);
       p3 = p3;
       p4 = rw (checked .p4) (shares.values .p4);
-      p5 = λ y. ap (λ (s : Shares). rowOf 2 1 (firstPrediction (alike 1) (s .values))) (shares.values .p4) ∙ first;
+      p5 = λ rule y. ap (λ (s : Shares). rowOf 2 1 (firstPrediction (alike 1) (s .values))) (shares.values .p4) ∙ first;
       p6 = rw (checked .p6) (ap (λ (s : Shares). told (s .check)) (shares.values .p6) ∙ (unfold ofInt ofBits in refl));
-      p7 = unfold rowOf tab labels number laterPrediction sumUp add mul ofBits in refl;
+      p7 = unfold rowOf tab labels number laterPrediction mixes sumUp add mul ofBits in refl;
       p8 = p8;
       p9 = record { spread = variances.values .p9-spread; constant = variances.values .p9-constant; fit = constant.p9-fit; gives = λ maxIter tol. ap (λ (x : FitOutcome). told (x .answer .check)) (constant.p9-fit maxIter tol) };
       p10 = checked .p10;

@@ -30,6 +30,7 @@ use Rattle.density.proofs.phis_of as density·phis_of
 use Rattle.density.proofs.phis as density·phis
 use Rattle.density.proofs.add_lags as density·add_lags
 use Rattle.density.proofs.weigh as density·weigh
+use Rattle.prediction.proofs.rule_of as prediction·rule_of
 use Rattle.prediction.proofs.first_row as prediction·first_row
 use Rattle.prediction.proofs.steps as prediction·steps
 use Rattle.prediction.proofs.later_row as prediction·later_row
@@ -87,6 +88,7 @@ pub record BetweenCrates (M : Type 1) : Type 2 where
   pub phis : One M density·phis.ended density·phis.clauses
   pub add-lags : One M density·add_lags.ended density·add_lags.clauses
   pub weigh : One M density·weigh.ended density·weigh.clauses
+  pub rule-of : One M prediction·rule_of.ended prediction·rule_of.clauses
   pub first-row : One M prediction·first_row.ended prediction·first_row.clauses
   pub steps : One M prediction·steps.ended prediction·steps.clauses
   pub later-row : One M prediction·later_row.ended prediction·later_row.clauses

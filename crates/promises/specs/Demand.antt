@@ -43,18 +43,18 @@ pub record AskedFromC (q : MsarParams) (o : Left) : Type 0 where
   pub answers : getD (o .whole) 0 1 ≡ 0
   pub shares : SharesNotBelow q
 
--- demand 3 of the table that the caller of `filter` holds afterwards, and of the filtered table of `smooth`
+-- demand 3 of the table that the caller of `filter` holds afterwards, and of the filtered table of `smooth`, whatever the rule
 pub record Demand : Type 0 where
-  pub filter : (S : MsarSpec) (y : List Float) (q : MsarParams) (work filtered : List Float)
-      → Asked q (filterCall S y q work filtered) → Demand3 q y (filterCall S y q work filtered .filtered)
-  pub smooth : (S : MsarSpec) (y : List Float) (q : MsarParams) (work filtered smoothed : List Float)
-      → Asked q (smoothCall S y q work filtered smoothed) → Demand3 q y (smoothCall S y q work filtered smoothed .filtered)
+  pub filter : (S : MsarSpec) (y : List Float) (q : MsarParams) (rule : ℕ) (work filtered : List Float)
+      → Asked q (filterCall S y q rule work filtered) → Demand3 q y (filterCall S y q rule work filtered .filtered)
+  pub smooth : (S : MsarSpec) (y : List Float) (q : MsarParams) (rule : ℕ) (work filtered smoothed : List Float)
+      → Asked q (smoothCall S y q rule work filtered smoothed) → Demand3 q y (smoothCall S y q rule work filtered smoothed .filtered)
   -- and of what `msar_filter` and `msar_smooth` leave in the caller's array `filtered`: EntryPoints.antt has the same `left ..`
-  pub msar-filter : (k order : ℕ) (ar variance : Bool) (y : List Float) (counts : List ℕ) (numbers work filtered : List Float)
+  pub msar-filter : (k order : ℕ) (ar variance : Bool) (y : List Float) (counts : List ℕ) (numbers : List Float) (rule : ℕ) (work filtered : List Float)
       → let q = paramsOf counts numbers in
-      let o = left (filterCall (specOf k order ar variance) y q work filtered) in
+      let o = left (filterCall (specOf k order ar variance) y q rule work filtered) in
       AskedFromC q o → Demand3 q y (o .filtered)
-  pub msar-smooth : (k order : ℕ) (ar variance : Bool) (y : List Float) (counts : List ℕ) (numbers work filtered smoothed : List Float)
+  pub msar-smooth : (k order : ℕ) (ar variance : Bool) (y : List Float) (counts : List ℕ) (numbers : List Float) (rule : ℕ) (work filtered smoothed : List Float)
       → let q = paramsOf counts numbers in
-      let o = left (smoothCall (specOf k order ar variance) y q work filtered smoothed) in
+      let o = left (smoothCall (specOf k order ar variance) y q rule work filtered smoothed) in
       AskedFromC q o → Demand3 q y (o .filtered)

@@ -21,7 +21,7 @@ use Rattle.params.specs.Checks.{parameterCheck}
 use Rattle.params.specs.Durations.{durationsOf}
 use Rattle.params.specs.Built.{builtOf}
 use Rattle.stationary.specs.Stationary.{sharesOf}
-use Rattle.binding.specs.Binding.{boundCheck, boundOf, memoryCheck, paramsCheck}
+use Rattle.binding.specs.Binding.{boundCheck, boundOf, memoryCheck, ruleCheck, paramsCheck}
 use Rattle.calls.specs.Calls.{loglikeCall, filterCall, smoothCall}
 use Rattle.fit.specs.Calls.{fitCall}
 use Rattle.text_decimal_read.specs.Text.{readOf}
@@ -56,6 +56,7 @@ use Rattle.stationary.proofs.stationary_shares as stationary·stationary_shares
 use Rattle.binding.proofs.bind as binding·bind
 use Rattle.binding.proofs.memory as binding·memory
 use Rattle.binding.proofs.parameters as binding·parameters
+use Rattle.binding.proofs.asked as binding·asked
 use Rattle.calls.proofs.loglike as calls·loglike
 use Rattle.calls.proofs.filter as calls·filter
 use Rattle.calls.proofs.smooth as calls·smooth
@@ -92,31 +93,31 @@ use Rattle.promises.specs.Types.{fn, value, table, reals, realsMut, byte
 -- parameters, and `now x` is what a reference x refers to at entry. An outcome is the result beside a tuple of the same order: what each parameter
 -- that is lent by `&mut` holds at exit, `tt` for every other.
 
--- ---- what C calls, on a series: seven parameters describe spec, series and parameters, and `whole` and `real` take the answer
+-- ---- what C calls, on a series: seven parameters describe spec, series and parameters, and `whole` and `real`, behind the rule number, take the answer
 
 abbrev pub msarLoglikeType : Ended
-msarLoglikeType = fn 6 (value usize ∷ value usize ∷ value bool ∷ value bool ∷ reals 0 tt ∷ wholeArray 1 tt 6 ∷ realArray 2 tt 400 ∷ realsMut 3 tt ∷ wholeArrayMut 4 tt 4 ∷ realArrayMut 5 tt 2 ∷ []) (value unit)
+msarLoglikeType = fn 6 (value usize ∷ value usize ∷ value bool ∷ value bool ∷ reals 0 tt ∷ wholeArray 1 tt 6 ∷ realArray 2 tt 400 ∷ realsMut 3 tt ∷ value usize ∷ wholeArrayMut 4 tt 4 ∷ realArrayMut 5 tt 2 ∷ []) (value unit)
 
 abbrev pub msarLoglikeOutcome : OutcomeOf msarLoglikeType
-msarLoglikeOutcome κs (k, (order, (ar, (variance, (series, (counts, (numbers, (work, _)))))))) =
-    let o = left (loglikeCall (specOf k order ar variance) (now series) (paramsOf (now counts) (now numbers)) (now work)) in
-    (tt, (tt, (tt, (tt, (tt, (tt, (tt, (tt, (o .work, (o .whole, (o .real, tt)))))))))))
+msarLoglikeOutcome κs (k, (order, (ar, (variance, (series, (counts, (numbers, (work, (rule, _))))))))) =
+    let o = left (loglikeCall (specOf k order ar variance) (now series) (paramsOf (now counts) (now numbers)) rule (now work)) in
+    (tt, (tt, (tt, (tt, (tt, (tt, (tt, (tt, (o .work, (tt, (o .whole, (o .real, tt))))))))))))
 
 abbrev pub msarFilterType : Ended
-msarFilterType = fn 7 (value usize ∷ value usize ∷ value bool ∷ value bool ∷ reals 0 tt ∷ wholeArray 1 tt 6 ∷ realArray 2 tt 400 ∷ realsMut 3 tt ∷ realsMut 4 tt ∷ wholeArrayMut 5 tt 4 ∷ realArrayMut 6 tt 2 ∷ []) (value unit)
+msarFilterType = fn 7 (value usize ∷ value usize ∷ value bool ∷ value bool ∷ reals 0 tt ∷ wholeArray 1 tt 6 ∷ realArray 2 tt 400 ∷ realsMut 3 tt ∷ realsMut 4 tt ∷ value usize ∷ wholeArrayMut 5 tt 4 ∷ realArrayMut 6 tt 2 ∷ []) (value unit)
 
 abbrev pub msarFilterOutcome : OutcomeOf msarFilterType
-msarFilterOutcome κs (k, (order, (ar, (variance, (series, (counts, (numbers, (work, (filtered, _))))))))) =
-    let o = left (filterCall (specOf k order ar variance) (now series) (paramsOf (now counts) (now numbers)) (now work) (now filtered)) in
-    (tt, (tt, (tt, (tt, (tt, (tt, (tt, (tt, (o .work, (o .filtered, (o .whole, (o .real, tt))))))))))))
+msarFilterOutcome κs (k, (order, (ar, (variance, (series, (counts, (numbers, (work, (filtered, (rule, _)))))))))) =
+    let o = left (filterCall (specOf k order ar variance) (now series) (paramsOf (now counts) (now numbers)) rule (now work) (now filtered)) in
+    (tt, (tt, (tt, (tt, (tt, (tt, (tt, (tt, (o .work, (o .filtered, (tt, (o .whole, (o .real, tt)))))))))))))
 
 abbrev pub msarSmoothType : Ended
-msarSmoothType = fn 8 (value usize ∷ value usize ∷ value bool ∷ value bool ∷ reals 0 tt ∷ wholeArray 1 tt 6 ∷ realArray 2 tt 400 ∷ realsMut 3 tt ∷ realsMut 4 tt ∷ realsMut 5 tt ∷ wholeArrayMut 6 tt 4 ∷ realArrayMut 7 tt 2 ∷ []) (value unit)
+msarSmoothType = fn 8 (value usize ∷ value usize ∷ value bool ∷ value bool ∷ reals 0 tt ∷ wholeArray 1 tt 6 ∷ realArray 2 tt 400 ∷ realsMut 3 tt ∷ realsMut 4 tt ∷ realsMut 5 tt ∷ value usize ∷ wholeArrayMut 6 tt 4 ∷ realArrayMut 7 tt 2 ∷ []) (value unit)
 
 abbrev pub msarSmoothOutcome : OutcomeOf msarSmoothType
-msarSmoothOutcome κs (k, (order, (ar, (variance, (series, (counts, (numbers, (work, (filtered, (smoothed, _)))))))))) =
-    let o = left (smoothCall (specOf k order ar variance) (now series) (paramsOf (now counts) (now numbers)) (now work) (now filtered) (now smoothed)) in
-    (tt, (tt, (tt, (tt, (tt, (tt, (tt, (tt, (o .work, (o .filtered, (o .smoothed, (o .whole, (o .real, tt)))))))))))))
+msarSmoothOutcome κs (k, (order, (ar, (variance, (series, (counts, (numbers, (work, (filtered, (smoothed, (rule, _))))))))))) =
+    let o = left (smoothCall (specOf k order ar variance) (now series) (paramsOf (now counts) (now numbers)) rule (now work) (now filtered) (now smoothed)) in
+    (tt, (tt, (tt, (tt, (tt, (tt, (tt, (tt, (o .work, (o .filtered, (o .smoothed, (tt, (o .whole, (o .real, tt))))))))))))))
 
 abbrev pub msarFitType : Ended
 msarFitType = fn 8 (value usize ∷ value usize ∷ value bool ∷ value bool ∷ reals 0 tt ∷ wholeArray 1 tt 6 ∷ realArray 2 tt 400 ∷ realsMut 3 tt ∷ realsMut 4 tt ∷ value usize ∷ value f64 ∷ realArrayMut 5 tt 400 ∷ wholeArrayMut 6 tt 4 ∷ realArrayMut 7 tt 2 ∷ []) (value unit)
@@ -169,28 +170,28 @@ msarMatchesOutcome κs (k, (order, (ar, (variance, (counts, (numbers, _)))))) = 
 -- ---- the calls on a series: answer, work memory, tables
 
 abbrev pub loglikeType : Ended
-loglikeType = fn 2 (value MsarSpec ∷ reals 0 tt ∷ value MsarParams ∷ realsMut 1 tt ∷ []) (value Answer)
+loglikeType = fn 2 (value MsarSpec ∷ reals 0 tt ∷ value MsarParams ∷ value usize ∷ realsMut 1 tt ∷ []) (value Answer)
 
 abbrev pub loglikeOutcome : OutcomeOf loglikeType
-loglikeOutcome κs (s, (series, (q, (work, _)))) =
-    let o = loglikeCall s (now series) q (now work) in
-    (o .answer, (tt, (tt, (tt, (o .work, tt)))))
+loglikeOutcome κs (s, (series, (q, (rule, (work, _))))) =
+    let o = loglikeCall s (now series) q rule (now work) in
+    (o .answer, (tt, (tt, (tt, (tt, (o .work, tt))))))
 
 abbrev pub filterType : Ended
-filterType = fn 3 (value MsarSpec ∷ reals 0 tt ∷ value MsarParams ∷ realsMut 1 tt ∷ realsMut 2 tt ∷ []) (value Answer)
+filterType = fn 3 (value MsarSpec ∷ reals 0 tt ∷ value MsarParams ∷ value usize ∷ realsMut 1 tt ∷ realsMut 2 tt ∷ []) (value Answer)
 
 abbrev pub filterOutcome : OutcomeOf filterType
-filterOutcome κs (s, (series, (q, (work, (filtered, _))))) =
-    let o = filterCall s (now series) q (now work) (now filtered) in
-    (o .answer, (tt, (tt, (tt, (o .work, (o .filtered, tt))))))
+filterOutcome κs (s, (series, (q, (rule, (work, (filtered, _)))))) =
+    let o = filterCall s (now series) q rule (now work) (now filtered) in
+    (o .answer, (tt, (tt, (tt, (tt, (o .work, (o .filtered, tt)))))))
 
 abbrev pub smoothType : Ended
-smoothType = fn 4 (value MsarSpec ∷ reals 0 tt ∷ value MsarParams ∷ realsMut 1 tt ∷ realsMut 2 tt ∷ realsMut 3 tt ∷ []) (value Answer)
+smoothType = fn 4 (value MsarSpec ∷ reals 0 tt ∷ value MsarParams ∷ value usize ∷ realsMut 1 tt ∷ realsMut 2 tt ∷ realsMut 3 tt ∷ []) (value Answer)
 
 abbrev pub smoothOutcome : OutcomeOf smoothType
-smoothOutcome κs (s, (series, (q, (work, (filtered, (smoothed, _)))))) =
-    let o = smoothCall s (now series) q (now work) (now filtered) (now smoothed) in
-    (o .answer, (tt, (tt, (tt, (o .work, (o .filtered, (o .smoothed, tt)))))))
+smoothOutcome κs (s, (series, (q, (rule, (work, (filtered, (smoothed, _))))))) =
+    let o = smoothCall s (now series) q rule (now work) (now filtered) (now smoothed) in
+    (o .answer, (tt, (tt, (tt, (tt, (o .work, (o .filtered, (o .smoothed, tt))))))))
 
 abbrev pub fitType : Ended
 fitType = fn 3 (value MsarSpec ∷ reals 0 tt ∷ value MsarParams ∷ value usize ∷ value f64 ∷ realsMut 1 tt ∷ realsMut 2 tt ∷ []) (value Fitted)
@@ -200,7 +201,7 @@ fitOutcome κs (s, (series, (start, (maxIter, (tol, (work, (smoothed, _))))))) =
     let o = fitCall s (now series) start maxIter tol (now work) (now smoothed) in
     (o .answer, (tt, (tt, (tt, (tt, (tt, (o .work, (o .smoothed, tt))))))))
 
--- ---- the checks of what a call is handed: 1 to 6 with the counts, and all of them
+-- ---- the checks of what a call is handed: 1 to 6 with the counts, 7, those of the parameters, and these behind 29
 
 abbrev pub bindType : Ended
 bindType = fn 1 (value MsarSpec ∷ reals 0 tt ∷ []) (value Bound)
@@ -220,6 +221,12 @@ parametersType = fn 0 (value MsarSpec ∷ value MsarParams ∷ []) (value Check)
 abbrev pub parametersOutcome : OutcomeOf parametersType
 parametersOutcome κs (s, (q, _)) = (paramsCheck s q, (tt, (tt, tt)))
 
+abbrev pub askedType : Ended
+askedType = fn 0 (value usize ∷ value MsarSpec ∷ value MsarParams ∷ []) (value Check)
+
+abbrev pub askedOutcome : OutcomeOf askedType
+askedOutcome κs (rule, (s, (q, _))) = (ruleCheck rule before paramsCheck s q, (tt, (tt, (tt, tt))))
+
 -- ---- the record: `new` keeps the very series and spec, and each method is the plain call on them
 
 abbrev pub recordNewType : Ended
@@ -229,28 +236,28 @@ abbrev pub recordNewOutcome : OutcomeOf recordNewType
 recordNewOutcome κs (series, (s, _)) = (record { check = boundCheck s (now series); model = record { series = series; spec = s } }, (tt, (tt, tt)))
 
 abbrev pub recordLoglikeType : Ended
-recordLoglikeType = fn 2 (model 0 tt ∷ value MsarParams ∷ realsMut 1 tt ∷ []) (value Answer)
+recordLoglikeType = fn 2 (model 0 tt ∷ value MsarParams ∷ value usize ∷ realsMut 1 tt ∷ []) (value Answer)
 
 abbrev pub recordLoglikeOutcome : OutcomeOf recordLoglikeType
-recordLoglikeOutcome κs (self, (q, (work, _))) =
-    let o = loglikeCall (self .spec) (now (self .series)) q (now work) in
-    (o .answer, (tt, (tt, (o .work, tt))))
+recordLoglikeOutcome κs (self, (q, (rule, (work, _)))) =
+    let o = loglikeCall (self .spec) (now (self .series)) q rule (now work) in
+    (o .answer, (tt, (tt, (tt, (o .work, tt)))))
 
 abbrev pub recordFilterType : Ended
-recordFilterType = fn 3 (model 0 tt ∷ value MsarParams ∷ realsMut 1 tt ∷ realsMut 2 tt ∷ []) (value Answer)
+recordFilterType = fn 3 (model 0 tt ∷ value MsarParams ∷ value usize ∷ realsMut 1 tt ∷ realsMut 2 tt ∷ []) (value Answer)
 
 abbrev pub recordFilterOutcome : OutcomeOf recordFilterType
-recordFilterOutcome κs (self, (q, (work, (filtered, _)))) =
-    let o = filterCall (self .spec) (now (self .series)) q (now work) (now filtered) in
-    (o .answer, (tt, (tt, (o .work, (o .filtered, tt)))))
+recordFilterOutcome κs (self, (q, (rule, (work, (filtered, _))))) =
+    let o = filterCall (self .spec) (now (self .series)) q rule (now work) (now filtered) in
+    (o .answer, (tt, (tt, (tt, (o .work, (o .filtered, tt))))))
 
 abbrev pub recordSmoothType : Ended
-recordSmoothType = fn 4 (model 0 tt ∷ value MsarParams ∷ realsMut 1 tt ∷ realsMut 2 tt ∷ realsMut 3 tt ∷ []) (value Answer)
+recordSmoothType = fn 4 (model 0 tt ∷ value MsarParams ∷ value usize ∷ realsMut 1 tt ∷ realsMut 2 tt ∷ realsMut 3 tt ∷ []) (value Answer)
 
 abbrev pub recordSmoothOutcome : OutcomeOf recordSmoothType
-recordSmoothOutcome κs (self, (q, (work, (filtered, (smoothed, _))))) =
-    let o = smoothCall (self .spec) (now (self .series)) q (now work) (now filtered) (now smoothed) in
-    (o .answer, (tt, (tt, (o .work, (o .filtered, (o .smoothed, tt))))))
+recordSmoothOutcome κs (self, (q, (rule, (work, (filtered, (smoothed, _)))))) =
+    let o = smoothCall (self .spec) (now (self .series)) q rule (now work) (now filtered) (now smoothed) in
+    (o .answer, (tt, (tt, (tt, (o .work, (o .filtered, (o .smoothed, tt)))))))
 
 abbrev pub recordFitType : Ended
 recordFitType = fn 3 (model 0 tt ∷ value MsarParams ∷ value usize ∷ value f64 ∷ realsMut 1 tt ∷ realsMut 2 tt ∷ []) (value Fitted)
@@ -463,6 +470,7 @@ pub record EntryPoints (M : Type 1) : Type 2 where
   pub bind : EntryPoint M bindType binding·bind.clauses binding·bind.Symbol.routine bindOutcome
   pub memory : EntryPoint M memoryType binding·memory.clauses binding·memory.Symbol.routine memoryOutcome
   pub parameters : EntryPoint M parametersType binding·parameters.clauses binding·parameters.Symbol.routine parametersOutcome
+  pub asked : EntryPoint M askedType binding·asked.clauses binding·asked.Symbol.routine askedOutcome
   -- the record
   pub record-new : EntryPoint M recordNewType record·new.clauses record·new.Symbol.routine recordNewOutcome
   pub record-loglike : EntryPoint M recordLoglikeType record·loglike.clauses record·loglike.Symbol.routine recordLoglikeOutcome

@@ -14,3 +14,5 @@ pub mod Demand
 pub mod Meanings
 -- document 01's twelve proved examples
 pub mod Twelve
+-- the two rules of a later prediction, beside each other
+pub mod Rules

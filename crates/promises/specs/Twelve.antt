@@ -26,6 +26,8 @@ use Rattle.params.specs.Durations.{durationsOf}
 use Rattle.stationary.specs.Stationary.{sharesOf, startShares}
 use Rattle.rows.specs.Rows.{rowOf, probability}
 use Rattle.prediction.specs.Prediction.{laterPrediction}
+use Rattle.prediction.specs.declared.Rule.{Rule}
+use Rattle.prediction.specs.declared.Rule.the-variants.{One}
 use Rattle.filter.specs.Filter.{predictedRow}
 use Rattle.em_sample_variance.specs.Series.{sampleVariance}
 use Rattle.fit.specs.Calls.{FitOutcome, fitCall}
@@ -136,13 +138,13 @@ pub record Twelve : Type 0 where
   pub p3 : P3
   -- both columns (0.25, 0.75): shares 0.25, 0.75
   pub p4 : sharesOf (alike 0) ≡ record { check = Passed; values = quarter ∷ three-quarters ∷ replicate 14 zero⁺ }
-  -- same P, p=1, first prediction 0.0625, 0.1875, 0.1875, 0.5625 (the filter's own first row, whatever the series)
-  pub p5 : (y : List Float) → predictedRow (alike 1) y (startShares (alike 1) .values) 0
+  -- same P, p=1, first prediction 0.0625, 0.1875, 0.1875, 0.5625 (the filter's own first row, whatever the rule and the series)
+  pub p5 : (rule : Rule) (y : List Float) → predictedRow rule (alike 1) y (startShares (alike 1) .values) 0
       ≡ float 0x3FB0_0000_0000_0000 ∷ float 0x3FC8_0000_0000_0000 ∷ float 0x3FC8_0000_0000_0000 ∷ float 0x3FE2_0000_0000_0000 ∷ []
   -- P the 2 by 2 identity: 21; it carries the column (document 02, Q-4), and column 1 is the first whose pivot is too small
   pub p6 : told (sharesOf (columns 0 one zero⁺ zero⁺ one) .check) ≡ saying 21 0 one
-  -- order 0, columns (0.5,0.5) and (0.25,0.75), previous row (0.25,0.75): prediction (0.5,0.5)
-  pub p7 : rowOf 2 0 (laterPrediction (columns 0 half half quarter three-quarters) (quarter ∷ three-quarters ∷ [])) ≡ half ∷ half ∷ []
+  -- order 0, columns (0.5,0.5) and (0.25,0.75), previous row (0.25,0.75): prediction (0.5,0.5). This is rule 1; Rules.antt has rule 2's beside it
+  pub p7 : rowOf 2 0 (laterPrediction One (columns 0 half half quarter three-quarters) (quarter ∷ three-quarters ∷ [])) ≡ half ∷ half ∷ []
   -- weights 1,1,1 normalised: exact total 1 - 2^-54, allowed 3/2^52
   pub p8 : P8
   -- series 1,3: variance 1; series 2,2: 0, and a fit at order 1 gives 25

@@ -44,28 +44,43 @@ impl<'a> MarkovSwitchingAr<'a> {
 
     // Each of these takes the record apart, and is the plain call on its parts.
 
-    pub fn loglike(self, params: MsarParams, work: &mut [f64]) -> Answer
-        ensures { λ r. ⌜ record { answer = r; work = now (work .exit); filtered = []; smoothed = [] } ≡ loglikeCall (self .entry .spec) (now (self .entry .series)) params (now (work .entry)) ⌝ }
+    pub fn loglike(self, params: MsarParams, rule: usize, work: &mut [f64]) -> Answer
+        ensures { λ r. ⌜ record { answer = r; work = now (work .exit); filtered = []; smoothed = [] } ≡ loglikeCall (self .entry .spec) (now (self .entry .series)) params rule (now (work .entry)) ⌝ }
     {
-        calls::loglike(self.spec, self.series, params, work)
+        calls::loglike(self.spec, self.series, params, rule, work)
     }
 
-    pub fn filter(self, params: MsarParams, work: &mut [f64], filtered: &mut [f64]) -> Answer
-        ensures { λ r. ⌜ record { answer = r; work = now (work .exit); filtered = now (filtered .exit); smoothed = [] } ≡ filterCall (self .entry .spec) (now (self .entry .series)) params (now (work .entry)) (now (filtered .entry)) ⌝ }
+    pub fn filter(
+        self,
+        params: MsarParams,
+        rule: usize,
+        work: &mut [f64],
+        filtered: &mut [f64],
+    ) -> Answer
+        ensures { λ r. ⌜ record { answer = r; work = now (work .exit); filtered = now (filtered .exit); smoothed = [] } ≡ filterCall (self .entry .spec) (now (self .entry .series)) params rule (now (work .entry)) (now (filtered .entry)) ⌝ }
     {
-        calls::filter(self.spec, self.series, params, work, filtered)
+        calls::filter(self.spec, self.series, params, rule, work, filtered)
     }
 
     pub fn smooth(
         self,
         params: MsarParams,
+        rule: usize,
         work: &mut [f64],
         filtered: &mut [f64],
         smoothed: &mut [f64],
     ) -> Answer
-        ensures { λ r. ⌜ record { answer = r; work = now (work .exit); filtered = now (filtered .exit); smoothed = now (smoothed .exit) } ≡ smoothCall (self .entry .spec) (now (self .entry .series)) params (now (work .entry)) (now (filtered .entry)) (now (smoothed .entry)) ⌝ }
+        ensures { λ r. ⌜ record { answer = r; work = now (work .exit); filtered = now (filtered .exit); smoothed = now (smoothed .exit) } ≡ smoothCall (self .entry .spec) (now (self .entry .series)) params rule (now (work .entry)) (now (filtered .entry)) (now (smoothed .entry)) ⌝ }
     {
-        calls::smooth(self.spec, self.series, params, work, filtered, smoothed)
+        calls::smooth(
+            self.spec,
+            self.series,
+            params,
+            rule,
+            work,
+            filtered,
+            smoothed,
+        )
     }
 
     pub fn fit(
@@ -91,41 +106,49 @@ pub fn check_of(spec: MsarSpec, series: &[f64]) -> Check
     MarkovSwitchingAr::new(series, spec).check
 }
 
-pub fn loglike_of(spec: MsarSpec, series: &[f64], params: MsarParams, work: &mut [f64]) -> Answer
-    ensures { λ r. ⌜ record { answer = r; work = now (work .exit); filtered = []; smoothed = [] } ≡ loglikeCall spec (now (series .entry)) params (now (work .entry)) ⌝ }
+pub fn loglike_of(
+    spec: MsarSpec,
+    series: &[f64],
+    params: MsarParams,
+    rule: usize,
+    work: &mut [f64],
+) -> Answer
+    ensures { λ r. ⌜ record { answer = r; work = now (work .exit); filtered = []; smoothed = [] } ≡ loglikeCall spec (now (series .entry)) params rule (now (work .entry)) ⌝ }
 {
     MarkovSwitchingAr::new(series, spec)
         .model
-        .loglike(params, work)
+        .loglike(params, rule, work)
 }
 
 pub fn filter_of(
     spec: MsarSpec,
     series: &[f64],
     params: MsarParams,
+    rule: usize,
     work: &mut [f64],
     filtered: &mut [f64],
 ) -> Answer
-    ensures { λ r. ⌜ record { answer = r; work = now (work .exit); filtered = now (filtered .exit); smoothed = [] } ≡ filterCall spec (now (series .entry)) params (now (work .entry)) (now (filtered .entry)) ⌝ }
+    ensures { λ r. ⌜ record { answer = r; work = now (work .exit); filtered = now (filtered .exit); smoothed = [] } ≡ filterCall spec (now (series .entry)) params rule (now (work .entry)) (now (filtered .entry)) ⌝ }
 {
     MarkovSwitchingAr::new(series, spec)
         .model
-        .filter(params, work, filtered)
+        .filter(params, rule, work, filtered)
 }
 
 pub fn smooth_of(
     spec: MsarSpec,
     series: &[f64],
     params: MsarParams,
+    rule: usize,
     work: &mut [f64],
     filtered: &mut [f64],
     smoothed: &mut [f64],
 ) -> Answer
-    ensures { λ r. ⌜ record { answer = r; work = now (work .exit); filtered = now (filtered .exit); smoothed = now (smoothed .exit) } ≡ smoothCall spec (now (series .entry)) params (now (work .entry)) (now (filtered .entry)) (now (smoothed .entry)) ⌝ }
+    ensures { λ r. ⌜ record { answer = r; work = now (work .exit); filtered = now (filtered .exit); smoothed = now (smoothed .exit) } ≡ smoothCall spec (now (series .entry)) params rule (now (work .entry)) (now (filtered .entry)) (now (smoothed .entry)) ⌝ }
 {
     MarkovSwitchingAr::new(series, spec)
         .model
-        .smooth(params, work, filtered, smoothed)
+        .smooth(params, rule, work, filtered, smoothed)
 }
 
 pub fn fit_of(

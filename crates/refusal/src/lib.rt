@@ -1,4 +1,4 @@
-// Document 01's refusals by name. specs/Refusals.antt gives each its number, its place and its value.
+// Refusals by name, document 01's and those of document 02. specs/Refusals.antt gives each its number, its place and its value.
 ghost use mathlib.Core.Path.{_≡_};
 ghost use Rattle.refusal.specs.Refusals.{said, saying};
 ghost use Rattle.refusal.specs.Checks.{_before_};
@@ -27,6 +27,7 @@ pub enum Refusal {
     OrderZero,
     SampleVariance(f64),
     Loglike,
+    OtherRule,
 }
 
 // What a refusal says: its number in document 01's table, the place and the value that it carries, zero where it carries none.
@@ -90,6 +91,7 @@ impl Refusal {
             Refusal::OrderZero => saying(24, 0, 0.0),
             Refusal::SampleVariance(v) => saying(25, 0, v),
             Refusal::Loglike => saying(26, 0, 0.0),
+            Refusal::OtherRule => saying(29, 0, 0.0),
         }
     }
 

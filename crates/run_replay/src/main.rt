@@ -1,10 +1,11 @@
 // Answers recorded cases of the model's calls, so that the gate compares them with the answers of the Rust that they were
 // ported from (oracle/model). Each case goes through the plain calls and through the record over them, each with memory of its
 // own, and every bit of the two outcomes is compared.
-// Standard input: a line is 16 hexadecimal digits. A case has 15 whole numbers: the call (1 loglike, 2 filter, 3 smooth, 4 fit), k,
-// the order, two flags, the lengths lent of work memory, filtered and smoothed table, the count of readings, and the six counts
-// of the parameters. Then come the readings, and of transition, means, AR coefficients and variances as many numbers as their
-// count says, but no more than their array holds. A fit ends with two lines more: the passes allowed, and the tolerance.
+// Standard input: a line is 16 hexadecimal digits. A case has 16 whole numbers: the call (1 loglike, 2 filter, 3 smooth, 4 fit), k,
+// the order, two flags, the lengths lent of work memory, filtered and smoothed table, the count of readings, the six counts of
+// the parameters, and the rule, which a fit does not take. Then come the readings, and of transition, means, AR coefficients and
+// variances as many numbers as their count says, but no more than their array holds. A fit ends with two lines more: the passes
+// allowed, and the tolerance.
 // Standard output: for each case a line with the refusal's number (0: answered), place and value, and the log-likelihood; a line
 // with how many places of work memory, from the first on, are +0, and how many places past these were written; then for each
 // table lent the numbers from its first place on that were written, and a line with how many places past these were written.
@@ -33,6 +34,7 @@ struct Given {
     which: usize,
     spec: MsarSpec,
     params: MsarParams,
+    rule: usize,
     max_iter: usize,
     tol: f64,
     work: usize,
@@ -71,10 +73,10 @@ fn plain(
     let q = c.params;
     let which = c.which;
     match which {
-        1 => answered(calls::loglike(c.spec, series, q, work), q),
-        2 => answered(calls::filter(c.spec, series, q, work, filtered), q),
+        1 => answered(calls::loglike(c.spec, series, q, c.rule, work), q),
+        2 => answered(calls::filter(c.spec, series, q, c.rule, work, filtered), q),
         3 => answered(
-            calls::smooth(c.spec, series, q, work, filtered, smoothed),
+            calls::smooth(c.spec, series, q, c.rule, work, filtered, smoothed),
             q,
         ),
         _ => fit::fit(c.spec, series, q, c.max_iter, c.tol, work, smoothed),
@@ -91,10 +93,13 @@ fn held(
     let q = c.params;
     let which = c.which;
     match which {
-        1 => answered(record::loglike_of(c.spec, series, q, work), q),
-        2 => answered(record::filter_of(c.spec, series, q, work, filtered), q),
+        1 => answered(record::loglike_of(c.spec, series, q, c.rule, work), q),
+        2 => answered(
+            record::filter_of(c.spec, series, q, c.rule, work, filtered),
+            q,
+        ),
         3 => answered(
-            record::smooth_of(c.spec, series, q, work, filtered, smoothed),
+            record::smooth_of(c.spec, series, q, c.rule, work, filtered, smoothed),
             q,
         ),
         _ => record::fit_of(c.spec, series, q, c.max_iter, c.tol, work, smoothed),
@@ -376,7 +381,7 @@ fn part(out: &mut [f64], count: usize) -> bool {
     run_hex::numbers(out, held) == held
 }
 
-fn spec_of(head: &[u64; 14]) -> MsarSpec {
+fn spec_of(head: &[u64; 15]) -> MsarSpec {
     MsarSpec {
         k_regimes: head[0] as usize,
         order: head[1] as usize,
@@ -415,7 +420,7 @@ fn admitted(c: Given, series: &[f64]) -> bool {
 }
 
 // Reads what a fit has behind its parameters, and answers the case.
-fn ending(which: usize, head: &[u64; 14], series: &[f64], params: MsarParams) -> bool {
+fn ending(which: usize, head: &[u64; 15], series: &[f64], params: MsarParams) -> bool {
     let mut last = [0; 2];
     if which == 4 {
         if !wholes(&mut last) {
@@ -426,6 +431,7 @@ fn ending(which: usize, head: &[u64; 14], series: &[f64], params: MsarParams) ->
         which,
         spec: spec_of(head),
         params,
+        rule: head[14] as usize,
         max_iter: last[0] as usize,
         tol: number::of_pattern(last[1]),
         work: head[4] as usize,
@@ -436,7 +442,7 @@ fn ending(which: usize, head: &[u64; 14], series: &[f64], params: MsarParams) ->
 }
 
 // Reads the parameters, and answers the case.
-fn parameters(which: usize, head: &[u64; 14], series: &[f64]) -> bool {
+fn parameters(which: usize, head: &[u64; 15], series: &[f64]) -> bool {
     let mut transition = [0.0; 256];
     let mut means = [0.0; 16];
     let mut ar = [0.0; 112];
@@ -478,7 +484,7 @@ fn case(which: usize) -> bool {
     if (which < 1) | (which > 4) {
         return false;
     }
-    let mut head = [0; 14];
+    let mut head = [0; 15];
     let mut series = unread();
     if !wholes(&mut head) {
         return false;

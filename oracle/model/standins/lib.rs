@@ -8,6 +8,7 @@ mod linsolve;
 mod model;
 mod params;
 mod results;
+pub mod rule;
 mod solver;
 mod spec;
 

@@ -4,12 +4,15 @@ use mathlib.Core.Path.{_≡_, sym, subst, _∙_}
 use borrow.Author.Needs.{needs}
 use lib.ListN.{length}
 use Rattle.number.specs.Number.{zero⁺}
+use Rattle.refusal.specs.Checks.{_before_}
 use Rattle.refusal.specs.declared.Check.{Check}
 use Rattle.refusal.specs.declared.Check.the-variants.{Passed}
-use Rattle.binding.specs.Binding.{admittedCheck}
-use Rattle.binding.proofs.Passed.{small, admits}
+use Rattle.refusal.proofs.Checks.{both}
+use Rattle.binding.specs.Binding.{admittedCheck, ruleCheck}
+use Rattle.binding.proofs.Passed.{small, admits-by}
 use Rattle.calls.proofs.Admitted.{filter-need-is, work-checked, Admitted, is-admitted, long-enough}
-use Rattle.calls.proofs.Outcomes.{loglikeOwn, loglike-refused, loglike-ran}
+use Rattle.calls.proofs.Outcomes.{loglike-refused, loglike-ran}
+use Rattle.calls.specs.Calls.{loglikeMemory}
 use Rattle.calls.proofs.loglike.Statement.{statement}
 use Rattle.calls.proofs.loglike.Tie as tie
 
@@ -28,33 +31,34 @@ module _ (c : tie.After-first-of2) where
   start = bound .before .before .before
 
   abbrev own : Check
-  own = loglikeOwn (start .args .s) (start .args .y .now) (start .args .q) (start .args .work .now)
+  own = loglikeMemory (start .args .s) (start .args .y .now) (start .args .q) (start .args .rule) (start .args .work .now)
 
-  checked : c .first-of2 .result ≡ admittedCheck (start .args .s) (start .args .y .now) own (start .args .q)
+  checked : c .first-of2 .result ≡ admittedCheck (start .args .s) (start .args .y .now) (own before ruleCheck (start .args .rule)) (start .args .q)
   checked =
-      admits (start .args .s) (start .args .y .now) (bound .bind .ensures) (start .args .q) own
-      (work-checked (start .args .s) (start .args .y .now) (bound .bind .ensures) (filter-need-is (start .args .s) (start .args .y .now) (bound .bind .ensures) (needed .filter-need .ensures)) _ (c .before .before .before .memory .ensures)) (c .before .before .parameters .ensures)
+      admits-by (start .args .s) (start .args .y .now) (bound .bind .ensures) (start .args .rule) (start .args .q) own
+      (work-checked (start .args .s) (start .args .y .now) (bound .bind .ensures) (filter-need-is (start .args .s) (start .args .y .now) (bound .bind .ensures) (needed .filter-need .ensures)) _ (c .before .before .before .memory .ensures)) (c .before .before .asked .ensures)
       (rw (← c .before .first-of .ensures) (c .first-of2 .ensures))
 
-  admitted : c .first-of2 .result ≡ Passed → Admitted (start .args .s) (start .args .y .now) (bound .bind .ensures) (start .args .q) own
-  admitted d = is-admitted (start .args .s) (start .args .y .now) (bound .bind .ensures) (start .args .q) own (sym checked ∙ d)
+  admitted : c .first-of2 .result ≡ Passed → Admitted (start .args .s) (start .args .y .now) (bound .bind .ensures) (start .args .q) (own before ruleCheck (start .args .rule))
+  admitted d = is-admitted (start .args .s) (start .args .y .now) (bound .bind .ensures) (start .args .q) (own before ruleCheck (start .args .rule)) (sym checked ∙ d)
 
 run-loglike-requires : tie.Need-run-loglike-requires
 run-loglike-requires c κs =
-    let a = admitted (c .before .before .before) (c .before .enum-told .given .1) in
-    (a .shape, (a .windows-of, a .power-is, a .rows-of, a .short, subst (λ n. n ≤ length (start (c .before .before .before) .args .work .now)) (sym (a .filter-need)) (long-enough _ _ (a .own-passed))))
+    let checked-at = c .before .before .before .before in
+    let a = admitted checked-at (c .before .before .enum-told .given .1) in
+    (a .shape, (a .windows-of, a .power-is, a .rows-of, a .short, subst (λ n. n ≤ length (start checked-at .args .work .now)) (sym (a .filter-need)) (long-enough _ _ (both (own checked-at) (a .own-passed) .0))))
 
 returns : tie.Need-returns
 returns c =
     let s = start (c .before .before .before .before) .args in
-    loglike-refused (s .s) (s .y .now) (s .q) (s .work .now) (c .refused .ensures zero⁺) (sym (checked (c .before .before .before .before)) ∙ c .before .before .r .given .1)
+    loglike-refused (s .s) (s .y .now) (s .q) (s .rule) (s .work .now) (c .refused .ensures zero⁺) (sym (checked (c .before .before .before .before)) ∙ c .before .before .r .given .1)
 
 returns-2 : tie.Need-returns-2
 returns-2 c =
-    let s = start (c .before .before .before .before .before .before) .args in
-    let d = c .before .before .before .before .enum-told .given .1 in
+    let s = start (c .before .before .before .before .before .before .before) .args in
+    let d = c .before .before .before .before .before .enum-told .given .1 in
     let ran = c .before .before .run-loglike .ensures in
-    loglike-ran (s .s) (s .y .now) (s .q) (s .work .now) (ran .0) (ran .1) (admitted (c .before .before .before .before .before .before) d .filter-need) (sym (checked (c .before .before .before .before .before .before)) ∙ d)
+    loglike-ran (s .s) (s .y .now) (s .q) (s .rule) (s .work .now) (c .before .before .before .before .rule-of .ensures) (ran .0) (ran .1) (admitted (c .before .before .before .before .before .before .before) d .filter-need) (sym (checked (c .before .before .before .before .before .before .before)) ∙ d)
 
 pub loglike-spec : {M : Type 1} → statement M
 loglike-spec =
@@ -69,6 +73,7 @@ loglike-spec =
     (λ c. search needs)
     (λ c κs. search needs)
     (λ c. search needs)
+    (λ c κs. search needs)
     run-loglike-requires
     returns
     (λ c. search needs)

@@ -32,12 +32,12 @@ returns c =
     let s = start-of run in
     let shares = run .before .before .solved-shares .ensures in
     let ran = run .run .ensures in
-    let answer = run-answer (s .args .t1) _ shares (ran .0) in
+    let answer = run-answer _ (s .args .t2) _ shares (ran .0) in
     let d = tabled .before .before .before .enum-told .given .1 in (
       answer,
       (
         all-cleared (s .args .n * s .args .m) (s .args .n * s .args .m + 256) _ _ (ran .1 .0 .1) (c .before .before .clear .ensures) (omega arith),
-        filtered-is (s .args .t1) _ _ _ (omega (arith, s .pre .0 .low)) (s .pre .1 .0) (s .pre .1 .1) _ _ _ (ran .1 .1 d) (s .pre .1 .2) (run-says (s .args .t1) _ answer d) (values-are (s .args .t1) (s .args .y .now) shares) (omega arith) _ (tabled .tabulate .ensures),
+        filtered-is (s .args .t2) _ _ _ (omega (arith, s .pre .0 .low)) (s .pre .1 .0) (s .pre .1 .1) _ _ _ _ (ran .1 .1 d) (s .pre .1 .2) (run-says _ (s .args .t2) _ answer d) (values-are (s .args .t2) shares) (omega arith) _ (tabled .tabulate .ensures),
       ),
     )
 
@@ -46,8 +46,8 @@ returns-2 c =
     let run = refused-run (c .before .before) in
     let s = start-of run in
     let ran = run .run .ensures in
-    let answer = run-answer (s .args .t1) _ (run .before .before .solved-shares .ensures) (ran .0) in
-    (answer, (all-cleared (s .args .n * s .args .m) (s .args .n * s .args .m + 256) _ _ (ran .1 .0 .1) (c .before .before .clear2 .ensures) (omega arith), filtered-as-found (s .args .t1) _ (run-says (s .args .t1) _ answer (c .before .before .before .before .enum-told2 .given .1)) _))
+    let answer = run-answer _ (s .args .t2) _ (run .before .before .solved-shares .ensures) (ran .0) in
+    (answer, (all-cleared (s .args .n * s .args .m) (s .args .n * s .args .m + 256) _ _ (ran .1 .0 .1) (c .before .before .clear2 .ensures) (omega arith), filtered-as-found _ (s .args .t2) _ (run-says _ (s .args .t2) _ answer (c .before .before .before .before .enum-told2 .given .1)) _))
 
 pub run-filter-spec : {M : Type 1} → statement M
 run-filter-spec =

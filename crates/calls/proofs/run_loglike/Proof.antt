@@ -23,7 +23,7 @@ returns : tie.Need-returns
 returns c =
     let run = c .before .before .before .before .before .before in
     let ran = run .run .ensures in
-    (run-answer (start-of run .args .t1) _ (run .before .before .solved-shares .ensures) (ran .0), all-cleared (0 * start-of run .args .m) (start-of run .args .n * start-of run .args .m + 256) _ _ (ran .1 .0 .1) (c .before .before .clear .ensures) (omega arith))
+    (run-answer _ (start-of run .args .t2) _ (run .before .before .solved-shares .ensures) (ran .0), all-cleared (0 * start-of run .args .m) (start-of run .args .n * start-of run .args .m + 256) _ _ (ran .1 .0 .1) (c .before .before .clear .ensures) (omega arith))
 
 pub run-loglike-spec : {M : Type 1} → statement M
 run-loglike-spec =

@@ -49,17 +49,17 @@ returns c =
     let a = s .args in
     let shares = run .before .before .solved-shares .ensures in
     let ran = run .run .ensures in
-    let answer = run-answer (a .t1) _ shares (ran .0) in
+    let answer = run-answer _ (a .t2) _ shares (ran .0) in
     let d = tabled .before .before .before .enum-told .given .1 in
-    let pos : 0 < k (a .t1) = omega (arith, s .pre .0 .low) in
-    let values = values-are (a .t1) (a .y .now) shares in
-    let passed = run-says (a .t1) _ answer d in (
+    let pos : 0 < k (a .t2) = omega (arith, s .pre .0 .low) in
+    let values = values-are (a .t2) shares in
+    let passed = run-says _ (a .t2) _ answer d in (
       answer,
       (
         all-cleared (2 * a .n * a .m) (2 * (a .n * a .m)) _ _ (drop-more (a .n * a .m) (2 * a .n * a .m) _ _ (omega arith) (done .smooth-rows .ensures .0 .1) ∙ ran .1 .0 .1) (c .before .before .clear .ensures) (omega arith),
         (
-          filtered-is (a .t1) _ _ _ pos (s .pre .1 .0) (s .pre .1 .1) _ _ _ (ran .1 .1 d) (s .pre .1 .2) passed values (omega arith) _ (tabled .tabulate .ensures),
-          smoothed-is (a .t1) _ _ _ pos (s .pre .1 .0) (s .pre .1 .1) _ _ _ (ran .1 .1 d) (s .pre .1 .2) passed values _ (done .smooth-rows .ensures .1 _ _ (ran .1 .1 d)),
+          filtered-is (a .t2) _ _ _ pos (s .pre .1 .0) (s .pre .1 .1) _ _ _ _ (ran .1 .1 d) (s .pre .1 .2) passed values (omega arith) _ (tabled .tabulate .ensures),
+          smoothed-is (a .t2) _ _ _ pos (s .pre .1 .0) (s .pre .1 .1) _ _ _ _ (ran .1 .1 d) (s .pre .1 .2) passed values _ (done .smooth-rows .ensures .1 _ _ _ (ran .1 .1 d)),
         ),
       ),
     )
@@ -69,9 +69,9 @@ returns-2 c =
     let run = c .before .before .before .before .before .before .before .before in
     let s = start-of run in
     let ran = run .run .ensures in
-    let answer = run-answer (s .args .t1) _ (run .before .before .solved-shares .ensures) (ran .0) in
-    let refused = run-says (s .args .t1) _ answer (c .before .before .before .before .enum-told2 .given .1) in
-    (answer, (all-cleared (2 * s .args .n * s .args .m) (2 * (s .args .n * s .args .m)) _ _ (ran .1 .0 .1) (c .before .before .clear2 .ensures) (omega arith), (filtered-as-found (s .args .t1) _ refused _, smoothed-as-found (s .args .t1) _ refused _)))
+    let answer = run-answer _ (s .args .t2) _ (run .before .before .solved-shares .ensures) (ran .0) in
+    let refused = run-says _ (s .args .t2) _ answer (c .before .before .before .before .enum-told2 .given .1) in
+    (answer, (all-cleared (2 * s .args .n * s .args .m) (2 * (s .args .n * s .args .m)) _ _ (ran .1 .0 .1) (c .before .before .clear2 .ensures) (omega arith), (filtered-as-found _ (s .args .t2) _ refused _, smoothed-as-found _ (s .args .t2) _ refused _)))
 
 pub run-smooth-spec : {M : Type 1} → statement M
 run-smooth-spec =

@@ -22,7 +22,7 @@ returns c =
     let s = done .before .before .before .before in
     let w = s .pre .1 .0 in (
       (done .smooth .ensures .long, rw w (done .smooth .ensures .rest)),
-      λ y shares held. smoothed-tabled (s .args .q) _ _ _ (omega (arith, s .pre .0 .low)) w (s .pre .1 .1) y shares _ held (omega arith) _ _ (done .smooth .ensures) (c .before .before .tabulate .ensures),
+      λ rule y shares held. smoothed-tabled (s .args .q) _ _ _ (omega (arith, s .pre .0 .low)) w (s .pre .1 .1) rule y shares _ held (omega arith) _ _ (done .smooth .ensures) (c .before .before .tabulate .ensures),
     )
 
 pub smooth-rows-spec : {M : Type 1} → statement M

@@ -12,7 +12,7 @@ steps-requires c κs = rw (c .two .ensures) (order-0, refl)
 returns : tie.Need-returns
 returns c =
     let row = c .before .before .later-row .ensures in
-    let from = p7-row (c .before .before .before .before .before .before .before .two .ensures) (c .before .before .before .before .before .before .steps .ensures) row in
+    let from = p7-row (c .before .before .before .before .before .before .before .before .before .two .ensures) (c .before .before .before .before .before .before .before .before .steps .ensures) row in
     both (is-same (c .before .is .ensures) (from 0 (lit≤ tt) ∙ later .at-0)) (is-same (c .is2 .ensures) (from 1 (lit≤ tt) ∙ later .at-1))
 
 pub p7-spec : {M : Type 1} → statement M

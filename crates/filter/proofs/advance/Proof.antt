@@ -13,7 +13,7 @@ abbrev start : tie.After-divide → tie.Start
 start c = c .before .before .before
 
 returns : tie.Need-returns
-returns c = (divided (kept c) .divide .ensures, (rw (start (divided (kept c)) .pre .1) at (c .later-row .ensures), kept c .keep .ensures))
+returns c = (divided (kept c) .divide .ensures, (rw (start (divided (kept c)) .pre .2) at (c .later-row .ensures), kept c .keep .ensures))
 
 pub advance-spec : {M : Type 1} → statement M
 advance-spec =

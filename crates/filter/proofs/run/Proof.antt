@@ -64,7 +64,7 @@ each-row-requires c κs =
 returns : tie.Need-returns
 returns c =
     let s = c .before .before .before .before .before .before in
-    (answer-refused (s .args .q) _ (s .args .start) zero⁺ (c .before .before .check .given .1) (c .refused .ensures zero⁺), ((refl, refl), λ d. absurd (refusal-stays zero⁺ (c .refused .ensures zero⁺) d)))
+    (answer-refused _ (s .args .q) _ (s .args .start) zero⁺ (c .before .before .check .given .1) (c .refused .ensures zero⁺), ((refl, refl), λ d. absurd (refusal-stays zero⁺ (c .refused .ensures zero⁺) d)))
 
 returns-2 : tie.Need-returns-2
 returns-2 c =
@@ -72,7 +72,7 @@ returns-2 c =
     let shares = shares-of (deviations-of (steps-of (rows .before) .before)) in
     let s = start-of shares in
     let done = rows .each-row .ensures in
-    (answer-of-rows (s .args .q) _ (s .args .start) _ (s .pre .1 .2) (shares .before .enum-told .given .1) (done .0), done .1)
+    (answer-of-rows _ (s .args .q) _ (s .args .start) _ (s .pre .1 .2) (shares .before .enum-told .given .1) (done .0), done .1)
 
 pub run-spec : {M : Type 1} → statement M
 run-spec =

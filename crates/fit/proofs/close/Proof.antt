@@ -38,13 +38,13 @@ returns c =
     let a = s .args in
     let shares = run .before .before .solved-shares .ensures in
     let ran = run .run .ensures in
-    let answer = run-answer (a .t1) _ shares (ran .0) in
+    let answer = run-answer _ (a .t1) _ shares (ran .0) in
     let d = done .before .before .before .enum-told .given .1 in
     let pos : 0 < k (a .t1) = omega (arith, s .pre .0 .low) in (
       answer,
       (
         all-cleared (2 * a .n * a .m) (2 * (a .n * a .m)) _ _ (drop-more (a .n * a .m) (2 * a .n * a .m) _ _ (omega arith) (done .smooth-rows .ensures .0 .1) ∙ ran .1 .0 .1) (c .before .before .clear .ensures) (omega arith),
-        smoothed-is (a .t1) _ _ _ pos (s .pre .1 .0) (s .pre .1 .1) _ _ _ (ran .1 .1 d) (s .pre .1 .2) (run-says (a .t1) _ answer d) (values-are (a .t1) (a .y .now) shares) _ (done .smooth-rows .ensures .1 _ _ (ran .1 .1 d)),
+        smoothed-is (a .t1) _ _ _ pos (s .pre .1 .0) (s .pre .1 .1) _ _ _ _ (ran .1 .1 d) (s .pre .1 .2) (run-says _ (a .t1) _ answer d) (values-are (a .t1) shares) _ (done .smooth-rows .ensures .1 _ _ _ (ran .1 .1 d)),
       ),
     )
 
@@ -53,8 +53,8 @@ returns-2 c =
     let run = c .before .before .before .before .before .before .before .before in
     let q = start-of run .args .t1 in
     let ran = run .run .ensures in
-    let answer = run-answer q _ (run .before .before .solved-shares .ensures) (ran .0) in
-    (answer, (all-cleared (2 * start-of run .args .n * start-of run .args .m) (2 * (start-of run .args .n * start-of run .args .m)) _ _ (ran .1 .0 .1) (c .before .before .clear2 .ensures) (omega arith), smoothed-as-found q _ (run-says q _ answer (c .before .before .before .before .enum-told2 .given .1)) _))
+    let answer = run-answer _ q _ (run .before .before .solved-shares .ensures) (ran .0) in
+    (answer, (all-cleared (2 * start-of run .args .n * start-of run .args .m) (2 * (start-of run .args .n * start-of run .args .m)) _ _ (ran .1 .0 .1) (c .before .before .clear2 .ensures) (omega arith), smoothed-as-found _ q _ (run-says _ q _ answer (c .before .before .before .before .enum-told2 .given .1)) _))
 
 pub close-spec : {M : Type 1} → statement M
 close-spec =
