@@ -184,7 +184,7 @@ fn medians(least: usize, mut ours: impl FnMut() -> f64, mut theirs: impl FnMut()
     (a[a.len() / 2], b[b.len() / 2])
 }
 
-/// The tables agree but for the last digits of the platform's functions. At order 0 smoothed numbers grow without bound, in
+/// The tables agree but for the last digits of the platform's functions. At order 0 by rule 1 smoothed numbers grow without bound, in
 /// both alike, so a gap counts over the number's size.
 fn agree(ours: &[f64], theirs: &[Vec<f64>]) {
     for (a, b) in ours.iter().zip(theirs.iter().flatten()) {

@@ -1,6 +1,6 @@
 #!/usr/bin/env bash
 # Compares the library's model calls with the Rust they were ported from, on cases drawn by a seed: every bit, every refusal,
-# and the promises on lent memory.
+# and the promises on lent memory and on the two rules.
 # oracle/model/compare.sh SOURCES quick|full [SEED [LIBRARY]]
 # SOURCES: the folder with the Rust sources; they are never copied into the repository.
 # quick: 1,000 cases and 400 fits; full: 40,000 and 20,000.

@@ -15,7 +15,7 @@ others need the standard library only. Each part prints a table. Gaps of probabi
 which are over the reference's probability; those of the log-likelihood are over its size where that is above 1.
 
 statsmodels is given the same numbers, and starts from its steady state, as it does unless told otherwise. Its filter of order 0
-runs over pairs of labels and takes the start as the label's two readings before the first; two steps of the chain leave the
+runs over pairs of labels and takes the start shares as those of the label two readings before the first; two steps of the chain leave the
 steady state as it is, so the first prediction is the shares there too.
 """
 import math

@@ -1,7 +1,7 @@
 -- What the checks that passed say of the spec, the series and the parameters. Assumes nothing.
 use Prim.Native.Nat.{ℕ, suc, _+_, _-_, _*_, _/_, _^_, _<_, _≤_}
 use mathlib.Core.Path.{_≡_, refl, sym, ap, _∙_}
-use mathlib.Core.Bool.{Bool, true, false, _&&_, Bool·beq}
+use mathlib.Core.Bool.{Bool, true, false, _&&_, _||_, Bool·beq, true≢false}
 use mathlib.Core.List.{List}
 use native.Mathlib.Nat.{pow-suc, mul-div-cancel, mul-le-mul, zero-mul}
 use native.Mathlib.Omega.{arith}
@@ -68,6 +68,17 @@ fits S y e =
       longer = leb-false _ _ (untrue _ _ (c₃ .0));
       short = ltb-false _ _ (untrue _ _ (c₃ .1));
     }
+
+-- ---- the rule
+
+pub rule-known : (number : ℕ) → ruleCheck number ≡ Passed → (1 ≤ number) × (number ≤ 2)
+unfolding ruleCheck
+rule-known number e = go (number =? 1) (number =? 2) (eqb-true number 1) (eqb-true number 2) (not-false _ (untrue _ _ e))
+  where
+    go : (a b : Bool) → (a ≡ true → number ≡ 1) → (b ≡ true → number ≡ 2) → (a || b) ≡ true → (1 ≤ number) × (number ≤ 2)
+    go true b f g h = let d = f refl in (omega (arith, d), omega (arith, d))
+    go false true f g h = let d = g refl in (omega (arith, d), omega (arith, d))
+    go false false f g h = absurd (true≢false (sym h))
 
 -- ---- the parameters under the spec
 

@@ -8,7 +8,7 @@ use lib.ListN.{length}
 use lib.Ieee.{Float}
 use Rattle.refusal.specs.Checks.{_before_}
 use Rattle.refusal.specs.declared.Check.{Check}
-use Rattle.refusal.specs.declared.Check.the-variants.{Passed, Failed}
+use Rattle.refusal.specs.declared.Check.the-variants.{Passed}
 use Rattle.refusal.proofs.Checks.{both, untrue, before-assoc}
 use Rattle.spec.specs.declared.MsarSpec.{MsarSpec}
 use Rattle.window.specs.Shape.{Shape}

@@ -71,8 +71,8 @@ abbrev pub called : Check → List Float → List Float → List Float → Outco
 called (Failed r) work filtered smoothed run = record { answer = answerAfter (Failed r) zero⁺; work = work; filtered = filtered; smoothed = smoothed }
 called Passed work filtered smoothed run = run
 
-module _ (S : MsarSpec) (y : List Float) (q : MsarParams) (rule : ℕ) (work : List Float) where
-  -- 7, in the order work, filtered table, smoothed table
+-- what a call checks of its own, first: 7, in the order work, filtered table, smoothed table
+module _ (S : MsarSpec) (y work : List Float) where
   abbrev pub loglikeMemory : Check
   loglikeMemory = memoryCheck (length work) (filterNeed S y)
 
@@ -85,15 +85,16 @@ module _ (S : MsarSpec) (y : List Float) (q : MsarParams) (rule : ℕ) (work : L
       before memoryCheck (length filtered) (tableNeed S y)
       before memoryCheck (length smoothed) (tableNeed S y)
 
-  -- behind 7 stands 29
+-- then 29, by the rule number
+module _ (S : MsarSpec) (y : List Float) (q : MsarParams) (rule : ℕ) (work : List Float) where
   unfoldable pub loglikeCall : Outcome
   loglikeCall =
-      called (admittedCheck S y (loglikeMemory before ruleCheck rule) q) work [] []
+      called (admittedCheck S y (loglikeMemory S y work before ruleCheck rule) q) work [] []
       (record { answer = runAnswer (ruleOf rule) q y; work = cleared (filterNeed S y) work; filtered = []; smoothed = [] })
 
   unfoldable pub filterCall : List Float → Outcome
   filterCall filtered =
-      called (admittedCheck S y (filterMemory filtered before ruleCheck rule) q) work filtered []
+      called (admittedCheck S y (filterMemory S y work filtered before ruleCheck rule) q) work filtered []
       (record {
         answer = runAnswer (ruleOf rule) q y;
         work = cleared (filterNeed S y) work;
@@ -103,7 +104,7 @@ module _ (S : MsarSpec) (y : List Float) (q : MsarParams) (rule : ℕ) (work : L
 
   unfoldable pub smoothCall : List Float → List Float → Outcome
   smoothCall filtered smoothed =
-      called (admittedCheck S y (smoothMemory filtered smoothed before ruleCheck rule) q) work filtered smoothed
+      called (admittedCheck S y (smoothMemory S y work filtered smoothed before ruleCheck rule) q) work filtered smoothed
       (record {
         answer = runAnswer (ruleOf rule) q y;
         work = cleared (smoothNeed S y) work;

@@ -42,8 +42,8 @@ pub fn smooth_rows(
     rows::tabulate(work, q.means_count, power, m, n, table);
 }
 
-// A run is the start shares and the filter from them by the rule, which keeps the rows that are read later. Work memory is cleared
-// after it, refused or not.
+// A run is the start shares and the filter from them by the rule, which keeps the rows that are read later. Work memory is
+// cleared after it, refused or not.
 fn run_loglike(
     rule: Rule,
     q: MsarParams,

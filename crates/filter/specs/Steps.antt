@@ -1,6 +1,6 @@
 -- What the steps of the code are handed and leave: the tables that are made once a call, and the rows that stand in work memory. The proofs show
 -- that the rows are the filter's.
-use Prim.Native.Nat.{ℕ, suc, _+_, _^_, _<_}
+use Prim.Native.Nat.{ℕ, suc, _+_, _<_}
 use mathlib.Core.Path.{_≡_}
 use mathlib.Core.List.{List}
 use lib.ListN.{drop, replicate}
@@ -10,7 +10,7 @@ use Rattle.number.specs.Table.{_!_, fillAt}
 use Rattle.window.specs.Windows.{labels}
 use Rattle.params.specs.declared.MsarParams.{MsarParams}
 use Rattle.params.specs.Parameters.{k, p}
-use Rattle.rows.specs.Rows.{Same, windowsOf}
+use Rattle.rows.specs.Rows.{Same}
 use Rattle.rows.specs.Memory.{predictedFrom, filteredFrom}
 use Rattle.prediction.specs.declared.Rule.{Rule}
 use Rattle.density.specs.Steps.{Parts, deviationAt, logAt}

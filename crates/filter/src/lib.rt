@@ -200,8 +200,8 @@ fn each_row(
     }
 }
 
-// The filter of a series from its start shares: their refusal, else the rows. n is the count of rows, m that of windows,
-// power k^order, and later predictions are made by the rule. It keeps the first `kept` of the n filtered and the n predicted rows: none, n, or all 2 · n.
+// The filter of a series from its start shares, by the rule: their refusal, else the rows. n is the count of rows, m that
+// of windows, power k^order. It keeps the first `kept` of the n filtered and the n predicted rows: none, n, or all 2 · n.
 pub fn run(
     rule: Rule,
     q: MsarParams,

@@ -1,5 +1,5 @@
 // Which regime holds at the end, and since when: a row for each regime, and a sentence.
-ghost use Prim.Native.Nat.{_≤_, _<_};
+ghost use Prim.Native.Nat.{_<_};
 ghost use Rattle.text_words.specs.Places.{Leads};
 use crate::refusals::has_passed;
 use crate::refusals::line_at;

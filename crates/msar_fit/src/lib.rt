@@ -16,7 +16,8 @@ use refusal::Refusal;
 use spec::MsarSpec;
 use text_words::least;
 
-// The rule of a log-likelihood beside a fit. The fit has passed its checks, so the order is at least 1, where both rules give the same.
+// The rule of a log-likelihood beside a fit. The fit has passed its checks, so the order is at least 1, where both rules
+// give the same.
 const RULE: usize = 2;
 
 // How the fit is to be made.

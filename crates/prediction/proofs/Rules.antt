@@ -1,4 +1,4 @@
--- The two rules: which of them mixes at which order. Assumes nothing.
+-- The two rules: which of them mixes at which order, and that a later row of the code is the rule's. Assumes nothing.
 use Prim.Native.Nat.{ℕ, _*_, _^_, _≤_}
 use mathlib.Core.Path.{_≡_, refl, sym, ap, _∙_}
 use mathlib.Core.Bool.{Bool, true, false}

@@ -35,8 +35,8 @@ mixes One p = false
 mixes Two p = p =? 0
 
 -- From order one up the label before is s_1, whatever the rule: P[s_0][s_1] times the sum of the previous row over the k predecessors, oldest
--- label rising. At order zero rule 2 is Hamilton's too: the sum over the label before, x from 0 up, of P[s_0][x] times the previous row's x. Rule 1
--- is the Rust's there: label 0 stands for s_1, and every window is a predecessor, so that the regime before is not looked at.
+-- label rising. At order zero the window has no label before. Rule 2 sums over it, as Hamilton does: P[s_0][x] times the previous row's x, x from
+-- 0 up. Rule 1 is the Rust's: label 0 stands for s_1, and every window is a predecessor, so that the regime before is not looked at.
 unfoldable pub laterPrediction : Rule → MsarParams → List Float → List ℕ → Float
 laterPrediction rule q previous w =
     if mixes rule (p q)

@@ -20,8 +20,9 @@ pub enum Rule {
     Two,
 }
 
-// The rule with this number, which is 1 or 2.
+// The rule with this number, which the calls have found to be 1 or 2.
 pub fn rule_of(number: usize) -> Rule
+    requires { ⌜ (1 ≤ number) × (number ≤ 2) ⌝ }
     ensures { λ r. ⌜ r ≡ ruleOf number ⌝ }
 {
     if number == 2 {
@@ -79,7 +80,7 @@ pub fn steps(q: MsarParams, m: usize) -> [f64; 256]
     let mut row = [0.0; 256];
     for a in 0..m {
         let now = a % k;
-        // at order 0 this is 0, as the definition has it
+        // at order 0 this is 0, as rule 1 has it; rule 2 reads no step there
         let before = a / k % k;
         row[a] = q.transition[now * k + before];
     }

@@ -85,7 +85,7 @@ density-not-below q y t w = exp-not-below (_ ⊖ _) (sub-fits binary64 _ _)
 
 -- ---- predictions
 
-module _ (rule : Rule) (q : MsarParams) (pos : 0 < k q) (steps : (i j : ℕ) → i < k q → j < k q → NotBelow (P q i j)) where
+module _ (q : MsarParams) (pos : 0 < k q) (steps : (i j : ℕ) → i < k q → j < k q → NotBelow (P q i j)) where
   -- the labels of a window, past its end too
   label-within : (a l : ℕ) → a < k q ^ suc (p q) → label (labels (k q) (suc (p q)) a) l < k q
   label-within a l h = rw (label-labels-any (k q) pos (suc (p q)) a l h) (mod-lt _ pos)
@@ -102,11 +102,11 @@ module _ (rule : Rule) (q : MsarParams) (pos : 0 < k q) (steps : (i j : ℕ) →
   unfolding firstPrediction
   first-not-below shares given a h = first-to shares given a h (p q)
 
-  -- a later one, from a row of which none is
-  pub later-not-below : (row : List Float) → NoneBelow (k q) (p q) (_!_ row) → (a : ℕ) → a < k q ^ suc (p q)
+  -- a later one, by either rule, from a row of which none is
+  pub later-not-below : (rule : Rule) (row : List Float) → NoneBelow (k q) (p q) (_!_ row) → (a : ℕ) → a < k q ^ suc (p q)
       → NotBelow (laterPrediction rule q row (labels (k q) (suc (p q)) a))
   unfolding laterPrediction
-  later-not-below row none a h = by-test (mixes rule (p q))
+  later-not-below rule row none a h = by-test (mixes rule (p q))
       (λ m. rw m
       (sums-not-below (λ x. P q (label (labels (k q) (suc (p q)) a) 0) x ⊗ entry (k q) row (x ∷ [])) (k q)
       (λ x l. product-not-below _ _ (steps _ x (label-within a 0 h) l) (none _ (one-label-below (k q) (p q) x (mixes-at-zero rule (p q) m) l)))))
@@ -146,11 +146,11 @@ module _ (rule : Rule) (q : MsarParams) (y shares : List Float) (shape : Shape (
         updated = λ i a h. row-at (k q) (p q) _ a h ∙ ap₂ (λ (x t : Float). x ⊘ t) (weights-are i a h) (total-is i);
         likelihoods = λ i h. subst (λ (x : Float). usable x ≡ true) (total-is i) (is-usable i h);
         densities = λ i a _. density-not-below q y _ _;
-        first = λ a h. subst NotBelow (sym (row-at (k q) (p q) (firstPrediction q shares) a h)) (first-not-below rule q some (steps-not-below q passed) shares given a h);
+        first = λ a h. subst NotBelow (sym (row-at (k q) (p q) (firstPrediction q shares) a h)) (first-not-below q some (steps-not-below q passed) shares given a h);
         later =
             λ i none a h.
             subst NotBelow (sym (row-at (k q) (p q) (laterPrediction rule q (filteredRow rule q y shares i)) a h))
-            (later-not-below rule q some (steps-not-below q passed) (filteredRow rule q y shares i) none a h);
+            (later-not-below q some (steps-not-below q passed) rule (filteredRow rule q y shares i) none a h);
       }
 
   pub filtered-near-one : (i : ℕ) → i < n → NearOne (k q) (k q ^ suc (p q)) (probability (k q) (p q) (filteredRow rule q y shares i))

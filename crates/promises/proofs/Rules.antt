@@ -31,9 +31,9 @@ use Rattle.calls.proofs.Admitted.{is-admitted}
 use Rattle.smoother.specs.Smoother.{smoothedRow}
 use Rattle.promises.specs.Rules as stated
 
-pub rows : stated.Rows
+pub order-zero : stated.OrderZero
 unfolding rowOf tab labels number laterPrediction mixes sumUp add mul ofBits
-rows = record { one = refl; two = refl }
+order-zero = record { one = refl; two = refl }
 
 -- ---- from order one up
 
@@ -80,16 +80,18 @@ module _ (q : MsarParams) (from-one : 1 ≤ p q) where
     unfolding runAnswer runLoglik
     run-answer = ap₂ answerAfter run-check (loglik-same y (startShares q .values))
 
+    -- a table of the same rows, left as found by the same refusals
+    table-same : {rows rows′ : ℕ → List Float} → rows ≡ rows′ → (found : List Float)
+        → written (runCheck One q y) (tableOf q y rows found) found ≡ written (runCheck Two q y) (tableOf q y rows′ found) found
+    table-same e found = ap₂ (λ (c : Check) (r : ℕ → List Float). written c (tableOf q y r found) found) run-check e
+
     filtered-table : (found : List Float) → filteredTable One q y found ≡ filteredTable Two q y found
     unfolding filteredTable
-    filtered-table found =
-        ap₂ (λ (c : Check) (rows : ℕ → List Float). written c (tableOf q y rows found) found) run-check (fun-ext (filtered-same y (startShares q .values)))
+    filtered-table = table-same (fun-ext (filtered-same y (startShares q .values)))
 
     smoothed-table : (found : List Float) → smoothedTable One q y found ≡ smoothedTable Two q y found
     unfolding smoothedTable
-    smoothed-table found =
-        ap₂ (λ (c : Check) (rows : ℕ → List Float). written c (tableOf q y rows found) found) run-check
-        (fun-ext (smoothed-same y (startShares q .values) (rowCount q y)))
+    smoothed-table = table-same (fun-ext (smoothed-same y (startShares q .values) (rowCount q y)))
 
 -- ---- of a call: its checks take both rules, and where they passed the parameters have the spec's order
 
@@ -109,19 +111,19 @@ module _ (S : MsarSpec) (y : List Float) (q : MsarParams) (from-one : 1 ≤ S .o
   loglike-same : (work : List Float) → loglikeCall S y q 1 work ≡ loglikeCall S y q 2 work
   unfolding loglikeCall ruleCheck ruleOf
   loglike-same work =
-      called-same (loglikeMemory S y q 1 work before ruleCheck 1) work [] []
+      called-same (loglikeMemory S y work before ruleCheck 1) work [] []
       (λ h i. record { answer = run-answer q h y i; work = cleared (filterNeed S y) work; filtered = []; smoothed = [] })
 
   filter-same : (work filtered : List Float) → filterCall S y q 1 work filtered ≡ filterCall S y q 2 work filtered
   unfolding filterCall ruleCheck ruleOf
   filter-same work filtered =
-      called-same (filterMemory S y q 1 work filtered before ruleCheck 1) work filtered []
+      called-same (filterMemory S y work filtered before ruleCheck 1) work filtered []
       (λ h i. record { answer = run-answer q h y i; work = cleared (filterNeed S y) work; filtered = filtered-table q h y filtered i; smoothed = [] })
 
   smooth-same : (work filtered smoothed : List Float) → smoothCall S y q 1 work filtered smoothed ≡ smoothCall S y q 2 work filtered smoothed
   unfolding smoothCall ruleCheck ruleOf
   smooth-same work filtered smoothed =
-      called-same (smoothMemory S y q 1 work filtered smoothed before ruleCheck 1) work filtered smoothed
+      called-same (smoothMemory S y work filtered smoothed before ruleCheck 1) work filtered smoothed
       (λ h i. record {
         answer = run-answer q h y i;
         work = cleared (smoothNeed S y) work;

@@ -1,13 +1,13 @@
 -- Document 01's twelve proved examples, computed of the definitions. Assumes nothing.
 use mathlib.Core.Path.{_≡_, refl, sym, ap, subst, _∙_}
 use mathlib.Core.Bool.{false}
-use mathlib.Core.List.{List, [], _∷_}
+use mathlib.Core.List.{[], _∷_}
 use Prim.Native.Nat.{ℕ, zero, suc, _+_, _-_, _^_, _≤_, _<_}
 use native.Mathlib.Nat.{le-of-suc-le-suc, not-suc-le-zero}
 use lib.Count.{trailingZeros}
 use lib.Dec.{T, lit≤}
 use lib.ListN.{replicate}
-use lib.Ieee.{Float, inf, binary64, fits, add, sub, mul, div, neg, lt, le, eq, sum, round, size, units, odd, span, climb, ofBits, toBits, ofInt, ofFields}
+use lib.Ieee.{inf, binary64, fits, add, sub, mul, div, neg, lt, le, eq, sum, round, size, units, odd, span, climb, ofBits, toBits, ofInt, ofFields}
 use Rattle.number.specs.Number.{float, zero⁺, half, one, magnitudeOf, usable}
 use Rattle.number.specs.Sums.{sumUp}
 use Rattle.number.specs.Table.{tab, fillAt}
@@ -29,8 +29,8 @@ use Rattle.prediction.specs.Prediction.{firstTo, firstPrediction, mixes, laterP
 use Rattle.filter.specs.Filter.{predictedRow}
 use Rattle.em_sample_variance.proofs.Examples as variances
 use Rattle.fit.specs.Calls.{FitOutcome}
-use Rattle.rounding.specs.NearOne.{exactTotal, unity, allowed, NearOne}
-use Rattle.promises.specs.Twelve.{told, quarter, three-quarters, columns, alike, third, P3, P8, P9, Twelve}
+use Rattle.rounding.specs.NearOne.{exactTotal, unity, allowed}
+use Rattle.promises.specs.Twelve.{told, quarter, three-quarters, columns, alike, third, P3, P8, Twelve}
 use Rattle.promises.proofs.ConstantSeries as constant
 
 -- ---- P3

@@ -93,7 +93,8 @@ use Rattle.promises.specs.Types.{fn, value, table, reals, realsMut, byte
 -- parameters, and `now x` is what a reference x refers to at entry. An outcome is the result beside a tuple of the same order: what each parameter
 -- that is lent by `&mut` holds at exit, `tt` for every other.
 
--- ---- what C calls, on a series: seven parameters describe spec, series and parameters, and `whole` and `real`, behind the rule number, take the answer
+-- ---- what C calls, on a series: seven parameters describe spec, series and parameters; the last two, `whole` and `real`, take the answer; the rule
+-- number stands before them, but not in `msar_fit`
 
 abbrev pub msarLoglikeType : Ended
 msarLoglikeType = fn 6 (value usize ∷ value usize ∷ value bool ∷ value bool ∷ reals 0 tt ∷ wholeArray 1 tt 6 ∷ realArray 2 tt 400 ∷ realsMut 3 tt ∷ value usize ∷ wholeArrayMut 4 tt 4 ∷ realArrayMut 5 tt 2 ∷ []) (value unit)

@@ -19,7 +19,7 @@ use Rattle.promises.specs.Twelve.{quarter, three-quarters, columns}
 abbrev pub after : Rule → List Float
 after rule = rowOf 2 0 (laterPrediction rule (columns 0 half half quarter three-quarters) (quarter ∷ three-quarters ∷ []))
 
-pub record Rows : Type 0 where
+pub record OrderZero : Type 0 where
   -- (0.5, 0.5), P7
   pub one : after One ≡ half ∷ half ∷ []
   -- (0.3125, 0.6875)

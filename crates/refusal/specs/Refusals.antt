@@ -1,4 +1,4 @@
--- What each refusal says: its number in document 01's table, the place and the value that it carries, zero where it names none.
+-- What each refusal says: its number in document 01 or 02, the place and the value that it carries, zero where it names none.
 -- After document 01, "Refusals by number", and document 02.
 use Prim.Native.Nat.{ℕ}
 use lib.Ieee.{Float}

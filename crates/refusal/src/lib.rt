@@ -30,7 +30,7 @@ pub enum Refusal {
     OtherRule,
 }
 
-// What a refusal says: its number in document 01's table, the place and the value that it carries, zero where it carries none.
+// What a refusal says: its number in document 01 or 02, the place and the value that it carries, zero where it carries none.
 pub struct Said {
     pub number: usize,
     pub place: usize,
@@ -95,7 +95,7 @@ impl Refusal {
         }
     }
 
-    // The number in document 01's table.
+    // The number in document 01 or 02.
     pub fn number(self) -> usize
         ensures { λ r. ⌜ r ≡ said self .number ⌝ }
     {

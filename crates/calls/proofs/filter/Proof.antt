@@ -9,7 +9,7 @@ use Rattle.refusal.specs.declared.Check.{Check}
 use Rattle.refusal.specs.declared.Check.the-variants.{Passed}
 use Rattle.refusal.proofs.Checks.{both}
 use Rattle.binding.specs.Binding.{admittedCheck, ruleCheck}
-use Rattle.binding.proofs.Passed.{small, admits-by}
+use Rattle.binding.proofs.Passed.{small, rule-known, admits-by}
 use Rattle.calls.proofs.Admitted.{filter-need-is, one-checked, Admitted, is-admitted, long-enough}
 use Rattle.calls.proofs.Outcomes.{filter-refused, filter-ran}
 use Rattle.calls.specs.Calls.{loglikeMemory, filterMemory}
@@ -34,7 +34,7 @@ module _ (c : tie.After-first-of2) where
   start = bound .before .before .before .before
 
   abbrev own : Check
-  own = filterMemory (start .args .s) (start .args .y .now) (start .args .q) (start .args .rule) (start .args .work .now) (start .args .filtered .now)
+  own = filterMemory (start .args .s) (start .args .y .now) (start .args .work .now) (start .args .filtered .now)
 
   checked : c .first-of2 .result ≡ admittedCheck (start .args .s) (start .args .y .now) (own before ruleCheck (start .args .rule)) (start .args .q)
   checked =
@@ -45,13 +45,16 @@ module _ (c : tie.After-first-of2) where
   admitted : c .first-of2 .result ≡ Passed → Admitted (start .args .s) (start .args .y .now) (bound .bind .ensures) (start .args .q) (own before ruleCheck (start .args .rule))
   admitted d = is-admitted (start .args .s) (start .args .y .now) (bound .bind .ensures) (start .args .q) (own before ruleCheck (start .args .rule)) (sym checked ∙ d)
 
+rule-of-requires : tie.Need-rule-of-requires
+rule-of-requires c κs = rule-known _ (both (own (c .before .before)) (admitted (c .before .before) (c .enum-told .given .1) .own-passed) .1)
+
 run-filter-requires : tie.Need-run-filter-requires
 run-filter-requires c κs =
     let checked-at = c .before .before .before .before .before in
     let s = start checked-at .args in
     let a = admitted checked-at (c .before .before .before .enum-told .given .1) in
     let memory = both (own checked-at) (a .own-passed) .0 in
-    let lent = both (loglikeMemory (s .s) (s .y .now) (s .q) (s .rule) (s .work .now)) memory in (
+    let lent = both (loglikeMemory (s .s) (s .y .now) (s .work .now)) memory in (
       a .shape,
       (
         a .windows-of,
@@ -89,7 +92,7 @@ filter-spec =
     (λ c. search needs)
     (λ c κs. search needs)
     (λ c. search needs)
-    (λ c κs. search needs)
+    rule-of-requires
     run-filter-requires
     returns
     (λ c. search needs)

@@ -9,7 +9,7 @@ use Rattle.refusal.specs.declared.Check.{Check}
 use Rattle.refusal.specs.declared.Check.the-variants.{Passed}
 use Rattle.refusal.proofs.Checks.{both}
 use Rattle.binding.specs.Binding.{admittedCheck, ruleCheck}
-use Rattle.binding.proofs.Passed.{small, admits-by}
+use Rattle.binding.proofs.Passed.{small, rule-known, admits-by}
 use Rattle.calls.proofs.Admitted.{filter-need-is, work-checked, Admitted, is-admitted, long-enough}
 use Rattle.calls.proofs.Outcomes.{loglike-refused, loglike-ran}
 use Rattle.calls.specs.Calls.{loglikeMemory}
@@ -31,7 +31,7 @@ module _ (c : tie.After-first-of2) where
   start = bound .before .before .before
 
   abbrev own : Check
-  own = loglikeMemory (start .args .s) (start .args .y .now) (start .args .q) (start .args .rule) (start .args .work .now)
+  own = loglikeMemory (start .args .s) (start .args .y .now) (start .args .work .now)
 
   checked : c .first-of2 .result ≡ admittedCheck (start .args .s) (start .args .y .now) (own before ruleCheck (start .args .rule)) (start .args .q)
   checked =
@@ -41,6 +41,9 @@ module _ (c : tie.After-first-of2) where
 
   admitted : c .first-of2 .result ≡ Passed → Admitted (start .args .s) (start .args .y .now) (bound .bind .ensures) (start .args .q) (own before ruleCheck (start .args .rule))
   admitted d = is-admitted (start .args .s) (start .args .y .now) (bound .bind .ensures) (start .args .q) (own before ruleCheck (start .args .rule)) (sym checked ∙ d)
+
+rule-of-requires : tie.Need-rule-of-requires
+rule-of-requires c κs = rule-known _ (both (own (c .before .before)) (admitted (c .before .before) (c .enum-told .given .1) .own-passed) .1)
 
 run-loglike-requires : tie.Need-run-loglike-requires
 run-loglike-requires c κs =
@@ -73,7 +76,7 @@ loglike-spec =
     (λ c. search needs)
     (λ c κs. search needs)
     (λ c. search needs)
-    (λ c κs. search needs)
+    rule-of-requires
     run-loglike-requires
     returns
     (λ c. search needs)

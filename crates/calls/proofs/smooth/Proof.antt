@@ -10,7 +10,7 @@ use Rattle.refusal.specs.declared.Check.{Check}
 use Rattle.refusal.specs.declared.Check.the-variants.{Passed}
 use Rattle.refusal.proofs.Checks.{both}
 use Rattle.binding.specs.Binding.{admittedCheck, ruleCheck, memoryCheck, smoothNeed, tableNeed}
-use Rattle.binding.proofs.Passed.{small, admits-by}
+use Rattle.binding.proofs.Passed.{small, rule-known, admits-by}
 use Rattle.calls.proofs.Admitted.{smooth-need-is, two-checked, Admitted, is-admitted, long-enough}
 use Rattle.calls.proofs.Outcomes.{smooth-refused, smooth-ran}
 use Rattle.calls.specs.Calls.{smoothMemory}
@@ -38,7 +38,7 @@ module _ (c : tie.After-first-of3) where
   start = bound .before .before .before .before .before
 
   abbrev own : Check
-  own = smoothMemory (start .args .s) (start .args .y .now) (start .args .q) (start .args .rule) (start .args .work .now) (start .args .filtered .now) (start .args .smoothed .now)
+  own = smoothMemory (start .args .s) (start .args .y .now) (start .args .work .now) (start .args .filtered .now) (start .args .smoothed .now)
 
   checked : c .first-of3 .result ≡ admittedCheck (start .args .s) (start .args .y .now) (own before ruleCheck (start .args .rule)) (start .args .q)
   checked =
@@ -48,6 +48,9 @@ module _ (c : tie.After-first-of3) where
 
   admitted : c .first-of3 .result ≡ Passed → Admitted (start .args .s) (start .args .y .now) (bound .bind .ensures) (start .args .q) (own before ruleCheck (start .args .rule))
   admitted d = is-admitted (start .args .s) (start .args .y .now) (bound .bind .ensures) (start .args .q) (own before ruleCheck (start .args .rule)) (sym checked ∙ d)
+
+rule-of-requires : tie.Need-rule-of-requires
+rule-of-requires c κs = rule-known _ (both (own (c .before .before)) (admitted (c .before .before) (c .enum-told .given .1) .own-passed) .1)
 
 run-smooth-requires : tie.Need-run-smooth-requires
 run-smooth-requires c κs =
@@ -99,7 +102,7 @@ smooth-spec =
     (λ c. search needs)
     (λ c κs. search needs)
     (λ c. search needs)
-    (λ c κs. search needs)
+    rule-of-requires
     run-smooth-requires
     returns
     (λ c. search needs)
