@@ -184,8 +184,8 @@ fn medians(least: usize, mut ours: impl FnMut() -> f64, mut theirs: impl FnMut()
     (a[a.len() / 2], b[b.len() / 2])
 }
 
-/// The tables agree but for the last digits of the platform's functions. At order 0 by rule 1 smoothed numbers grow without bound, in
-/// both alike, so a gap counts over the number's size.
+/// The tables agree but for the last digits of the platform's functions. At order 0 by rule 1 smoothed numbers grow without
+/// bound, in both alike, so a gap counts over the number's size.
 fn agree(ours: &[f64], theirs: &[Vec<f64>]) {
     for (a, b) in ours.iter().zip(theirs.iter().flatten()) {
         let same = a == b || a.is_nan() && b.is_nan() || (a - b).abs() <= 1e-9 * a.abs().max(1.0);
