@@ -1,5 +1,7 @@
 // What a caller hands in, checked: the series under its spec, memory, the rule, the parameters under the spec. A call puts
 // its own checks between the first and the last.
+#![tactic(auto)]
+
 ghost use Rattle.std.specs.Prelude.{◌≡◌, not, List, ◌+◌, ◌*◌, ◌≤◌, Float, length};
 ghost use Rattle.refusal.specs.Checks.{◌before◌, ◌when◌};
 ghost use Rattle.refusal.specs.declared.Check.TheVariants.{Failed};
@@ -14,7 +16,7 @@ use refusal::{Check, Refusal};
 use spec::{MsarSpec, Windows};
 
 // The counts that a call works with, or the refusal beside zeros.
-#[derive(Drop)]
+#[derive(Clone, Copy)]
 pub struct Bound {
     pub check: Check,
     pub rows: usize,

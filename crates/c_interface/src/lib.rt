@@ -1,9 +1,11 @@
 // The library's functions under their C names; include/msar.h says the same in C. Each makes the library's records of
 // the arrays that C hands in, calls one function, and spells its answer, so that nothing is decided here.
+#![tactic(auto)]
+
 ghost use Rattle.std.specs.Prelude.{◌≡◌, []};
 ghost use Rattle.number.specs.Number.{zero⁺};
 ghost use Rattle.root.specs.Root.{root_of, IsRoot};
-ghost use Rattle.log.specs.Log.{log_of};
+ghost use Rattle.logarithm.specs.Log.{log_of};
 ghost use Rattle.exp.specs.Exp.{exp_of};
 ghost use Rattle.normal.specs.Normal.{lnpdf_of};
 ghost use Rattle.spec.specs.Spec.{window_count};
@@ -254,7 +256,7 @@ pub extern "C" fn msar_root(x: f64) -> f64
 pub extern "C" fn msar_log(x: f64) -> f64
     ensures { result ≡ log_of x }
 {
-    log::log(x)
+    logarithm::log(x)
 }
 
 // The exponential, as fdlibm 5.3 works it out.

@@ -1,4 +1,6 @@
 // The model's calls on a series, in lent memory: log-likelihood, filter, smoother. Each binds afresh.
+#![tactic(auto)]
+
 ghost use Rattle.std.specs.Prelude.{◌≡◌, List, [], ◌+◌, ◌*◌, ◌^◌, ◌<◌, ◌≤◌, length, drop, Float};
 ghost use Rattle.number.specs.Table.{fill_at};
 ghost use Rattle.window.specs.Shape.{Shape};

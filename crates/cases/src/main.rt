@@ -1,6 +1,8 @@
 // Document 01's twelve examples, each run through the library's own functions: a line for each, its name and `ok`, or
 // `differs` where an answer is not the example's. The same twelve are proved of the definitions
 // (crates/promises/specs/Twelve.antt).
+#![tactic(auto)]
+
 ghost use Rattle.std.specs.Prelude.{◌≡◌, true, ◌<◌, ◌^◌};
 ghost use Rattle.number.specs.Number.{zero⁺};
 ghost use Rattle.number.specs.Sums.{sum_up};

@@ -11,7 +11,7 @@ use Rattle.number.specs.Number.{if◌then◌else◌, ◌=?◌, zero⁺}
 use Rattle.number.specs.Table.{◌!◌, fill_at}
 use Rattle.number.proofs.Table.{fill_at_ext, fill_at_lem}
 use Rattle.root.specs.Root.{root_of}
-use Rattle.log.specs.Log.{log_of}
+use Rattle.logarithm.specs.Log.{log_of}
 use Rattle.params.specs.declared.MsarParams.{MsarParams}
 use Rattle.params.specs.Parameters.{k, block_of, variance}
 use Rattle.density.specs.Steps.{variances_from, deviation_at, log_at}

@@ -4,7 +4,7 @@ use Rattle.std.specs.Prelude.{ℕ, zero, suc, ◌-◌, List, Float}
 use Rattle.number.specs.Number.{◌⊕◌, ◌⊖◌, ◌⊗◌, ◌⊘◌}
 use Rattle.number.specs.Table.{◌!◌}
 use Rattle.root.specs.Root.{root_of}
-use Rattle.log.specs.Log.{log_of}
+use Rattle.logarithm.specs.Log.{log_of}
 use Rattle.exp.specs.Exp.{exp_of}
 use Rattle.normal.specs.Normal.{lnpdf_of}
 use Rattle.window.specs.Windows.{label}

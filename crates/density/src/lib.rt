@@ -1,6 +1,8 @@
 // The density of a reading under each window of labels. Standard deviations, their logarithms and the coefficients by
 // label do not change along the series: they are tables, made once a call. The means of a row are made lag by lag, so
 // that windows with the same newest labels share the work.
+#![tactic(auto)]
+
 ghost use Rattle.std.specs.Prelude.{◌≡◌, ◌⊎◌, suc, ◌+◌, ◌*◌, ◌%◌, ◌^◌, ◌<◌, ◌≤◌, length, replicate};
 ghost use Rattle.number.specs.Number.{◌⊕◌, ◌⊗◌, zero⁺};
 ghost use Rattle.number.specs.Sums.{sum_up};
@@ -72,7 +74,7 @@ pub fn logarithms(deviations: &[f64; 256], k: usize, m: usize) -> [f64; 256]
 {
     let mut row = [0.0; 256];
     for s in 0..k {
-        row[s] = log::log(deviations[s]);
+        row[s] = logarithm::log(deviations[s]);
     }
     repeat(&mut row, k, m);
     row

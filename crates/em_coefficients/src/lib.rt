@@ -1,6 +1,8 @@
 // The new AR coefficients of an EM step. One walk over rows and windows makes the normal equations of all blocks: block
 // b's table stands from place b·p·p on, its right-hand side from b·p on. The distance of a reading to a mean depends on
 // its lag and label alone: the distances are made once a row, and each window reads those of its labels.
+#![tactic(auto)]
+
 ghost use Rattle.std.specs.Prelude.{◌≡◌, suc, ◌+◌, ◌*◌, ◌^◌, ◌<◌, ◌≤◌, length, replicate};
 ghost use Rattle.std.specs.Float.Ieee.{ne};
 ghost use Rattle.number.specs.Number.{if◌then◌else◌, ◌⊕◌, ◌⊗◌, ◌⊘◌, zero⁺};
@@ -16,7 +18,7 @@ use refusal::Check;
 use window::{Row, Time};
 
 // New coefficients in their places, or the refusal beside zeros.
-#[derive(Drop)]
+#[derive(Clone, Copy)]
 pub struct Blocks {
     pub check: Check,
     pub ar: [f64; 112],

@@ -1,4 +1,6 @@
 // The new transition table, by the smoothed rows in work memory.
+#![tactic(auto)]
+
 ghost use Rattle.std.specs.Prelude.{◌≡◌, ℕ, ◌+◌, ◌*◌, ◌%◌, ◌<◌, ◌≤◌, length, replicate};
 ghost use Rattle.number.specs.Number.{zero⁺};
 ghost use Rattle.number.specs.Table.{fill_at};

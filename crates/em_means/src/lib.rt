@@ -1,6 +1,8 @@
 // The new means: normal equations summed over the smoothed windows, and solved with a ridge. What is left of a reading
 // depends on the label now alone: it is made once a row. The sensitivities are made once a window: a table of them all
 // would take 32 KiB of stack.
+#![tactic(auto)]
+
 ghost use Rattle.std.specs.Prelude.{◌≡◌, suc, ◌+◌, ◌*◌, ◌%◌, ◌^◌, ◌<◌, ◌≤◌, length, replicate, set};
 ghost use Rattle.number.specs.Number.{◌⊕◌, ◌⊗◌, zero⁺};
 ghost use Rattle.number.specs.Table.{◌!◌, fill_at};

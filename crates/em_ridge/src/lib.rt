@@ -1,4 +1,6 @@
 // Normal equations with a ridge.
+#![tactic(auto)]
+
 ghost use Rattle.std.specs.Prelude.{◌≡◌, ◌*◌, ◌<◌, ◌≤◌, length};
 ghost use Rattle.number.specs.Table.{fill_at};
 ghost use Rattle.em_ridge.specs.Ridge.{largest_to, ridged, refused_at, updated_by, solve_or_keep};
@@ -9,7 +11,7 @@ use refusal::{Check, Refusal};
 const SMALL: f64 = 1e-12;
 
 // New values in the first places of 16, or the refusal beside zeros.
-#[derive(Drop)]
+#[derive(Clone, Copy)]
 pub struct Update {
     pub check: Check,
     pub values: [f64; 16],

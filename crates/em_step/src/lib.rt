@@ -1,4 +1,6 @@
 // One EM step by the smoothed rows in work memory.
+#![tactic(auto)]
+
 ghost use Rattle.std.specs.Prelude.{◌≡◌, length, drop};
 ghost use Rattle.rows.specs.Memory.{filtered_from};
 ghost use Rattle.refusal.specs.declared.Check.TheVariants.{Passed};
@@ -11,7 +13,7 @@ use params::{Built, MsarParams};
 use refusal::{Check, Refusal};
 
 // New means, AR coefficients and variances, or the refusal beside zeros.
-#[derive(Drop)]
+#[derive(Clone, Copy)]
 pub struct Gaussian {
     pub check: Check,
     pub means: [f64; 16],

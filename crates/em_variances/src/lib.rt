@@ -1,5 +1,7 @@
 // The new variances of an EM step. The residuals of a row are made lag by lag, so that windows with the same newest
 // labels share the work; the sums of each block of labels stand in sixteen places.
+#![tactic(auto)]
+
 ghost use Rattle.std.specs.Prelude.{◌≡◌, suc, ◌+◌, ◌*◌, ◌^◌, ◌<◌, ◌≤◌, length, set};
 ghost use Rattle.std.specs.Float.Ieee.{ne};
 ghost use Rattle.number.specs.Number.{if◌then◌else◌, ◌⊕◌, ◌⊖◌, ◌⊗◌, zero⁺};

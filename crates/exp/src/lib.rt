@@ -6,6 +6,8 @@
 // 2^-59; so e^r = 1 + r + r c / (2 - c), where c = r - (P1 r^2 + .. + P5 r^10).
 // Scaling: k is added to the exponent of e^r; below -1021 in two steps, since the result may be subnormal.
 // Error: below one unit in the last place, as fdlibm states it. What is proved is that each operation is fdlibm's.
+#![tactic(auto)]
+
 ghost use Rattle.std.specs.Prelude.{◌≡◌, true, false, ◌<◌};
 ghost use Rattle.std.specs.Float.Ieee.{is_nan, lt, to_unsigned};
 ghost use Rattle.rounding.specs.Bounds.{Within, From};

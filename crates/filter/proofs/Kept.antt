@@ -13,7 +13,7 @@ use Rattle.number.specs.Number.{◌⊕◌, ◌⊗◌, ◌⊘◌, zero⁺, usable
 use Rattle.number.specs.Table.{◌!◌, fill_at}
 use Rattle.number.proofs.Sums.{sum_none, sum_next, sum_ext}
 use Rattle.number.proofs.Table.{fill_at_lem}
-use Rattle.log.specs.Log.{log_of}
+use Rattle.logarithm.specs.Log.{log_of}
 use Rattle.refusal.specs.Checks.{each}
 use Rattle.refusal.specs.declared.Check.{Check}
 use Rattle.refusal.specs.declared.Check.TheVariants.{Passed, Failed}

@@ -4,7 +4,7 @@
 use Rattle.std.specs.Prelude.{ℕ, zero, suc, ◌-◌, ◌^◌, not, List, length, Float}
 use Rattle.number.specs.Number.{◌⊗◌, ◌⊘◌, zero⁺, usable}
 use Rattle.number.specs.Sums.{sum_up}
-use Rattle.log.specs.Log.{log_of}
+use Rattle.logarithm.specs.Log.{log_of}
 use Rattle.window.specs.Time.{time_of}
 use Rattle.window.specs.Windows.{labels}
 use Rattle.refusal.specs.Checks.{◌before◌, ◌when◌, each}

@@ -1,4 +1,6 @@
 // The filter over the rows of a series, in lent memory. What does not change along the series is made once, as tables.
+#![tactic(auto)]
+
 ghost use Rattle.std.specs.Prelude.{◌≡◌, suc, ◌+◌, ◌*◌, ◌^◌, ◌<◌, ◌≤◌, length, drop, replicate, Float};
 ghost use Rattle.number.specs.Number.{◌⊘◌, zero⁺};
 ghost use Rattle.number.specs.Table.{◌!◌, fill_at};
@@ -20,7 +22,7 @@ use stationary::Shares;
 use window::Row;
 
 // The log-likelihood, or the refusal that stands in its place.
-#[derive(Drop)]
+#[derive(Clone, Copy)]
 pub struct Answer {
     pub check: Check,
     pub loglik: f64,
@@ -167,7 +169,7 @@ fn each_row(
         if !number::is_usable(likelihood) {
             return refused(Refusal::Likelihood(i));
         }
-        loglik = loglik + log::log(likelihood);
+        loglik = loglik + logarithm::log(likelihood);
         advance(
             rule,
             q.order,

@@ -1,4 +1,6 @@
 // The fit by EM, in lent memory: passes of filter, smoother and step, and a closing pass.
+#![tactic(auto)]
+
 ghost use Rattle.std.specs.Prelude.{◌≡◌, ℕ, suc, ◌+◌, ◌*◌, ◌^◌, ◌<◌, ◌≤◌, length, drop, Bool, not, List, Float};
 ghost use Rattle.std.specs.Float.Ieee.Scale.{finite};
 ghost use Rattle.number.specs.Number.{if◌then◌else◌};
@@ -31,7 +33,7 @@ use spec::MsarSpec;
 const SMALL: f64 = 1e-12;
 
 // Where the passes stand.
-#[derive(Drop)]
+#[derive(Clone, Copy)]
 pub enum Course {
     Going,
     Converged(usize),
@@ -39,7 +41,7 @@ pub enum Course {
 }
 
 // With the parameters reached and the log-likelihood of the last pass.
-#[derive(Drop)]
+#[derive(Clone, Copy)]
 pub struct State {
     pub course: Course,
     pub params: MsarParams,
@@ -47,7 +49,7 @@ pub struct State {
 }
 
 // The answer, or the refusal beside zeros.
-#[derive(Drop)]
+#[derive(Clone, Copy)]
 pub struct Fitted {
     pub check: Check,
     pub params: MsarParams,
@@ -57,7 +59,7 @@ pub struct Fitted {
 }
 
 // What a pass says before its step.
-#[derive(Drop)]
+#[derive(Clone, Copy)]
 pub struct Verdict {
     pub course: Course,
     pub loglik: f64,
@@ -270,7 +272,7 @@ fn ended(answer: Answer, q: MsarParams, iterations: usize, converged: bool) -> F
 // ---- the call
 
 // The refusal of the passes, or how many there were and whether they converged.
-#[derive(Drop)]
+#[derive(Clone, Copy)]
 pub struct End {
     pub check: Check,
     pub iterations: usize,

@@ -1,11 +1,13 @@
 // Small linear systems, by Gaussian elimination with partial pivoting and back-substitution.
+#![tactic(auto)]
+
 ghost use Rattle.std.specs.Prelude.{◌≡◌, suc, ◌+◌, ◌-◌, ◌<◌, ◌≤◌, length};
 ghost use Rattle.number.specs.Number.{◌≤?◌, magnitude_of};
 ghost use Rattle.number.specs.Table.{cell, fill_at};
 ghost use Rattle.linsolve.specs.Solver.{system, pivot_of, swap_rows, placed, less_row, clear_row, clear_to, column, eliminate_to, less_known, back_to, solve_of};
 ghost use Rattle.linsolve.specs.Promises.{exchange, less_at, Best, Holds, Remains};
 
-#[derive(Drop)]
+#[derive(Clone, Copy)]
 pub enum Outcome {
     Solved,
     // the column at which elimination stopped, counted from 0, so below 16
@@ -13,14 +15,14 @@ pub enum Outcome {
     TooLarge,
 }
 
-#[derive(Drop)]
+#[derive(Clone, Copy)]
 pub struct Solution {
     pub outcome: Outcome,
     pub x: [f64; 16],
 }
 
 // The row where a column's pivot is found, and the pivot's magnitude.
-#[derive(Drop)]
+#[derive(Clone, Copy)]
 struct Pivot {
     row: usize,
     magnitude: f64,

@@ -1,4 +1,6 @@
 // The program msar: a Markov-switching autoregression on a series, by a model, both from files. docs/MODEL.md has the files' grammar.
+#![tactic(auto)]
+
 ghost use Rattle.std.specs.Prelude.{◌≡◌, length};
 
 mod commands;

@@ -1,10 +1,12 @@
 // The command line.
+#![tactic(auto)]
+
 pub mod help;
 mod value;
 
 use text_csv::Heading;
 
-#[derive(Drop)]
+#[derive(Clone, Copy)]
 pub enum Command {
     Nothing,
     Help,
@@ -20,7 +22,7 @@ pub enum Command {
 }
 
 // The option whose value comes next.
-#[derive(Drop)]
+#[derive(Clone, Copy)]
 pub enum Waiting {
     Nothing,
     Column,
@@ -38,7 +40,7 @@ pub enum Waiting {
 
 // MODEL, SERIES and the columns by their places among the arguments, 0 where they are not given; digits likewise; and how many words
 // were no options.
-#[derive(Drop)]
+#[derive(Clone, Copy)]
 pub struct Options {
     pub command: Command,
     pub model: usize,

@@ -1,6 +1,8 @@
 // The commands, each a call and what it writes; `fit` and `start` stand in msar_fit. Work memory holds 393,216 numbers. For n rows of m
 // windows `smooth`, `verdict` and `fit` need 2 * n * m of them, so they take 4,096 readings with 48 windows, 768 rows with 256. `loglike`
 // and `filter` need n * m + 256, so n * m may be 392,960: 4,096 readings with 95 windows, 1,535 rows with 256.
+#![tactic(auto)]
+
 ghost use Rattle.std.specs.Prelude.{◌<◌};
 
 pub mod refusals;

@@ -13,7 +13,7 @@ use spec::MsarSpec;
 use text_words::least;
 
 // Which regimes are asked for: all below k, or one.
-#[derive(Drop)]
+#[derive(Clone, Copy)]
 pub struct Asked {
     pub one: bool,
     pub regime: usize,

@@ -6,7 +6,7 @@ use crate::lines::Course;
 use text_csv::Heading;
 
 // What the caller says of the file: whether it has columns, what parts them, what its first line is, whether a column is to be kept.
-#[derive(Drop)]
+#[derive(Clone, Copy)]
 pub struct Layout {
     pub csv: bool,
     pub heading: Heading,
@@ -18,7 +18,7 @@ pub struct Layout {
 // So far: the readings counted; the line of the first blank one since the last reading, else 0; whether the first line is still to come;
 // then whether it was a heading, how many cells it had, and where the reading and the kept cell stand; whether every reading could be
 // half a number.
-#[derive(Drop)]
+#[derive(Clone, Copy)]
 pub struct Progress {
     pub count: usize,
     pub blank: u64,
@@ -32,7 +32,7 @@ pub struct Progress {
 
 // Where a line leads; whether it has a reading, and which; and the part of the line that is to be kept, from this place to that, in this
 // slot: the reading's number, 4,097 for the heading, NO_SLOT for none.
-#[derive(Drop)]
+#[derive(Clone, Copy)]
 pub struct Told {
     pub progress: Progress,
     pub course: Course,

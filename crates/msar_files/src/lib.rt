@@ -1,4 +1,6 @@
 // The files that the program reads.
+#![tactic(auto)]
+
 mod csv;
 pub mod keep;
 mod lines;

@@ -3,14 +3,14 @@ ghost use Rattle.std.specs.Prelude.{◌≡◌};
 ghost use Rattle.text_words.specs.Places.{Leads};
 
 // What was read of the file and not yet taken: of the block's first `have` bytes those from `at` on.
-#[derive(Drop)]
+#[derive(Clone, Copy)]
 pub struct Source {
     pub fd: i32,
     pub at: usize,
     pub have: usize,
 }
 
-#[derive(Drop)]
+#[derive(Clone, Copy)]
 pub enum State {
     Whole,
     End,
@@ -19,21 +19,21 @@ pub enum State {
 }
 
 // The next line: its first `length` bytes stand in the caller's memory.
-#[derive(Drop)]
+#[derive(Clone, Copy)]
 pub struct Taken {
     pub source: Source,
     pub state: State,
     pub length: usize,
 }
 
-#[derive(Drop)]
+#[derive(Clone, Copy)]
 enum Byte {
     One(u8),
     End,
     Failed,
 }
 
-#[derive(Drop)]
+#[derive(Clone, Copy)]
 struct Step {
     source: Source,
     byte: Byte,
@@ -157,7 +157,7 @@ pub fn next(source: Source, block: &mut [u8; 4096], line: &mut [u8]) -> Taken
 
 // ---- the course of a reading
 
-#[derive(Drop)]
+#[derive(Clone, Copy)]
 pub enum Course {
     Going,
     Done,

@@ -5,14 +5,14 @@ use text_model::{Draft, Model, Step};
 use text_model_line::{Fault, Outcome};
 
 // What was at fault is said by then. `held` bytes of the file's text are kept, or more than there is room for.
-#[derive(Drop)]
+#[derive(Clone, Copy)]
 pub struct Reading {
     pub good: bool,
     pub model: Model,
     pub held: usize,
 }
 
-#[derive(Drop)]
+#[derive(Clone, Copy)]
 struct Turn {
     source: Source,
     draft: Draft,

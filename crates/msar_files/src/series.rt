@@ -4,14 +4,14 @@ use crate::lines::{Course, Source};
 use crate::{csv, keep, lines, plain};
 
 // What was at fault is said by then. Readings are counted past the room for them.
-#[derive(Drop)]
+#[derive(Clone, Copy)]
 pub struct Reading {
     pub good: bool,
     pub count: usize,
     pub headed: bool,
 }
 
-#[derive(Drop)]
+#[derive(Clone, Copy)]
 struct Turn {
     source: Source,
     progress: Progress,

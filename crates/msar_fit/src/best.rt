@@ -9,7 +9,7 @@ use refusal::Check;
 use spec::MsarSpec;
 
 // The fit that is kept, or the refusal of the first start; and the number of its start.
-#[derive(Drop)]
+#[derive(Clone, Copy)]
 pub struct Best {
     pub check: Check,
     pub params: MsarParams,

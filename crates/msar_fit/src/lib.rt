@@ -1,4 +1,6 @@
 // The commands `fit` and `start`, which write a MODEL.
+#![tactic(auto)]
+
 ghost use Rattle.std.specs.Prelude.{◌≤◌};
 
 mod best;
@@ -19,7 +21,7 @@ use text_words::least;
 const RULE: usize = 2;
 
 // How the fit is to be made.
-#[derive(Drop)]
+#[derive(Clone, Copy)]
 pub struct Ways {
     pub max_iter: usize,
     pub tol: f64,
@@ -63,7 +65,7 @@ fn head_of(b: Best, loglik: f64, rows: usize, starts: usize) -> Head
         parameters: count,
         rows,
         aic: 2.0 * x - 2.0 * loglik,
-        bic: log::log(number::of_whole(rows as u64)) * x - 2.0 * loglik,
+        bic: logarithm::log(number::of_whole(rows as u64)) * x - 2.0 * loglik,
         starts,
         best: b.number,
     }

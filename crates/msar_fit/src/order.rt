@@ -207,7 +207,7 @@ fn rearranged(q: MsarParams, from: [usize; 16], k: usize) -> MsarParams
 }
 
 // The parameters reached, and whether their regimes were moved.
-#[derive(Drop)]
+#[derive(Clone, Copy)]
 pub struct Ordered {
     pub params: MsarParams,
     pub moved: bool,

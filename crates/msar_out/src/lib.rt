@@ -1,4 +1,6 @@
 // What the program writes to standard output.
+#![tactic(auto)]
+
 ghost use Rattle.std.specs.Prelude.{◌<◌, ◌≤◌};
 
 pub mod model;

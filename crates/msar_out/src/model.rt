@@ -10,7 +10,7 @@ use text_model_line::Kind;
 use text_words::least;
 
 // What stands in front of a fitted MODEL. The best of so many starts was the one with this number.
-#[derive(Drop)]
+#[derive(Clone, Copy)]
 pub struct Head {
     pub loglik: f64,
     pub iterations: usize,

@@ -10,7 +10,7 @@ use text_words::{Span, least};
 
 // How a table is written: with so many digits, 0 for all 17; with a kept cell beside each reading, or without, and whether that has a
 // heading.
-#[derive(Drop)]
+#[derive(Clone, Copy)]
 pub struct Style {
     pub digits: usize,
     pub keeps: bool,

@@ -1,4 +1,6 @@
 // What the program says on standard error: notes, and at the end one line that begins with `msar: error` or `msar: refused`.
+#![tactic(auto)]
+
 ghost use Rattle.text_words.specs.Places.{Leads};
 
 pub mod file;

@@ -2,6 +2,8 @@
 // and takes the parameters from the groups. Of the recipes 0 to 119 each is another one. Ported from oracle/starts/start.py, operation by
 // operation. Every call is safe; what it gives has a meaning where 2 <= k, the readings are finite, at least 2k and more than p, and not
 // all equal.
+#![tactic(auto)]
+
 ghost use Rattle.std.specs.Prelude.{◌≤◌, length};
 
 use params::MsarParams;

@@ -132,7 +132,7 @@ fn residual(
 }
 
 // The squares of residuals, and how many they are.
-#[derive(Drop)]
+#[derive(Clone, Copy)]
 struct Squares {
     sum: f64,
     count: f64,

@@ -1,5 +1,7 @@
 // The readings of a series in groups from low to high: a label for each, and the means of the groups. Recipe number i says how they are
 // split. Ported from oracle/starts/start.py, its parts 1 and 2, operation by operation.
+#![tactic(auto)]
+
 ghost use Rattle.std.specs.Prelude.{◌≤◌, ◌<◌, length};
 
 use text_words::least;

@@ -1,8 +1,10 @@
 // What the command `msar verdict` says of a regime. Rows, labels and places of the smoothed table count from 0.
+#![tactic(auto)]
+
 ghost use Rattle.std.specs.Prelude.{◌≡◌};
 ghost use Rattle.msar_verdict.specs.Verdict.{at, share_of, run_of, last_of, needed_of, verdict_of, finding_of};
 
-#[derive(Drop)]
+#[derive(Clone, Copy)]
 pub enum Verdict {
     No,
     NotSettled,
@@ -10,7 +12,7 @@ pub enum Verdict {
 }
 
 // The verdict and what it rests on: the run, how many readings a run needs, the row with which the run begins, the probability at the end.
-#[derive(Drop)]
+#[derive(Clone, Copy)]
 pub struct Finding {
     pub verdict: Verdict,
     pub run: usize,

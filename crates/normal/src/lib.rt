@@ -1,4 +1,6 @@
 // The normal log density.
+#![tactic(auto)]
+
 ghost use Rattle.std.specs.Prelude.{◌≡◌};
 ghost use Rattle.normal.specs.Normal.{lnpdf_of};
 

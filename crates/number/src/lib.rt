@@ -1,5 +1,7 @@
 // What Rust has as methods of f64, worked out by the program: bit patterns, magnitude, is finite, max; a whole number as an f64; and of
 // rows: the first number that fails a test, a copy.
+#![tactic(auto)]
+
 ghost use Rattle.std.specs.Prelude.{◌≡◌, ◌+◌, ◌^◌, ◌≤◌, ◌<◌, length};
 ghost use Rattle.std.specs.Float.Ieee.Scale.{finite};
 ghost use Rattle.number.specs.Number.{pattern_of, float, of_whole, usable, magnitude_of, max_of};
@@ -87,7 +89,7 @@ pub fn max(x: f64, y: f64) -> f64
 // ---- rows
 
 // What each number of a row must be: finite, finite and above zero, or finite and between two bounds, which it may equal.
-#[derive(Drop)]
+#[derive(Clone, Copy)]
 pub enum Test {
     Finite,
     Usable,

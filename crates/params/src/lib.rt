@@ -1,4 +1,6 @@
 // The parameters of a model, and the checks of document 01 on them.
+#![tactic(auto)]
+
 ghost use Rattle.std.specs.Prelude.{◌≡◌, ◌≤◌};
 ghost use Rattle.params.specs.Parameters.{k, p, switches, matches_spec};
 ghost use Rattle.params.specs.Checks.{parameter_check};
@@ -14,7 +16,7 @@ pub mod tidy;
 // As a caller hands them in: arrays of which as many places are used as the counts say. k is the count of means. AR
 // coefficients come in blocks of `order`; they switch with the regime exactly where there is not one block, and so the
 // variance.
-#[derive(Drop)]
+#[derive(Clone, Copy)]
 pub struct MsarParams {
     pub transition: [f64; 256],
     pub means: [f64; 16],
@@ -29,14 +31,14 @@ pub struct MsarParams {
 }
 
 // A record that passed the checks and holds +0 in the places that are not used, or the refusal beside a record of zeros.
-#[derive(Drop)]
+#[derive(Clone, Copy)]
 pub struct Built {
     pub check: Check,
     pub params: MsarParams,
 }
 
 // The expected durations, or the refusal that stands in their place.
-#[derive(Drop)]
+#[derive(Clone, Copy)]
 pub struct Durations {
     pub check: Check,
     pub values: [f64; 16],

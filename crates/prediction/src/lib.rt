@@ -1,6 +1,8 @@
 // The predictions of the windows, row by row. A step's probability does not change along the series: it stands in a
 // table by window. The sum over predecessors is made once for the k windows that share it. At order zero by rule 2 the
 // label before is summed over in place of that.
+#![tactic(auto)]
+
 ghost use Rattle.std.specs.Prelude.{◌≡◌, suc, ◌+◌, ◌*◌, ◌^◌, ◌<◌, ◌≤◌, length, replicate};
 ghost use Rattle.number.specs.Number.{◌⊗◌, zero⁺};
 ghost use Rattle.number.specs.Table.{◌!◌, fill_at};
@@ -14,7 +16,7 @@ use params::MsarParams;
 
 // How the label before is taken at order zero, where it is none of the window's: label 0 stands for it, as in the Rust, or
 // it is summed over, as in the literature. From order one up the two are the same.
-#[derive(Drop)]
+#[derive(Clone, Copy)]
 pub enum Rule {
     One,
     Two,

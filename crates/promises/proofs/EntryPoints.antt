@@ -9,7 +9,7 @@ use Rattle.number.proofs.is_finite as number·is_finite
 use Rattle.number.proofs.is_usable as number·is_usable
 use Rattle.number.proofs.max as number·max
 use Rattle.root.proofs.root as root·root
-use Rattle.log.proofs.log as log·log
+use Rattle.logarithm.proofs.log as log·log
 use Rattle.exp.proofs.exp as exp·exp
 use Rattle.normal.proofs.lnpdf as normal·lnpdf
 use Rattle.linsolve.proofs.solve as linsolve·solve

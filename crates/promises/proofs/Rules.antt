@@ -9,7 +9,7 @@ use Rattle.number.specs.Number.{usable}
 use Rattle.number.specs.Sums.{sum_up}
 use Rattle.number.specs.Table.{tab}
 use Rattle.number.proofs.Sums.{sum_ext}
-use Rattle.log.specs.Log.{log_of}
+use Rattle.logarithm.specs.Log.{log_of}
 use Rattle.window.specs.Windows.{labels, number}
 use Rattle.refusal.specs.Checks.{◌before◌, ◌when◌, each}
 use Rattle.refusal.specs.declared.Check.{Check}

@@ -12,7 +12,7 @@ use Rattle.number.specs.Sums.{sum_up}
 use Rattle.number.specs.Table.{◌!◌, tab}
 use Rattle.rounding.specs.Units.{in_units}
 use Rattle.root.specs.Root.{root_of, root_pattern, whole_root, cut}
-use Rattle.log.specs.Log.{log_of, log_poly, log_close, log_mid, log_out, log_far, log_normal}
+use Rattle.logarithm.specs.Log.{log_of, log_poly, log_close, log_mid, log_out, log_far, log_normal}
 use Rattle.exp.specs.Exp.{exp_of, exp_poly, exp_zero, exp_part, exp_scale, signed, exp_whole, exp_far, exp_near, exp_reduce, exp_large}
 use Rattle.normal.specs.Normal.{lnpdf_of}
 use Rattle.window.specs.Windows.{labels, number}

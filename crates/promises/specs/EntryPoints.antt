@@ -8,7 +8,7 @@ use Rattle.std.specs.Borrow.{bool, f64, u64, unit, usize}
 use denote.Triple.Clauses.{Ended}
 use Rattle.number.specs.Number.{zero⁺, pattern_of, float, magnitude_of, usable, max_of}
 use Rattle.root.specs.Root.{root_of}
-use Rattle.log.specs.Log.{log_of}
+use Rattle.logarithm.specs.Log.{log_of}
 use Rattle.exp.specs.Exp.{exp_of}
 use Rattle.normal.specs.Normal.{lnpdf_of}
 use Rattle.linsolve.specs.Solver.{solve_of}
@@ -34,7 +34,7 @@ use Rattle.number.proofs.is_finite as number·is_finite
 use Rattle.number.proofs.is_usable as number·is_usable
 use Rattle.number.proofs.max as number·max
 use Rattle.root.proofs.root as root·root
-use Rattle.log.proofs.log as log·log
+use Rattle.logarithm.proofs.log as log·log
 use Rattle.exp.proofs.exp as exp·exp
 use Rattle.normal.proofs.lnpdf as normal·lnpdf
 use Rattle.linsolve.proofs.solve as linsolve·solve

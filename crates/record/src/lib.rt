@@ -1,4 +1,6 @@
 // The Rust's `MarkovSwitchingAr<'a>`: a borrowed series and a spec, held together over the plain calls.
+#![tactic(auto)]
+
 ghost use Rattle.std.specs.Prelude.{◌≡◌, []};
 ghost use Rattle.binding.specs.Binding.{bound_check};
 ghost use Rattle.calls.specs.Calls.{loglike_call, filter_call, smooth_call};
@@ -11,14 +13,14 @@ use refusal::Check;
 use spec::MsarSpec;
 
 // Parameters and memory come with each call, so that one record serves many.
-#[derive(Drop)]
+#[derive(Clone, Copy)]
 pub struct MarkovSwitchingAr<'a> {
     series: &'a [f64],
     spec: MsarSpec,
 }
 
 // What `new` answers: 1 to 6 beside the record, since an enum can hold no reference.
-#[derive(Drop)]
+#[derive(Clone, Copy)]
 pub struct Made<'a> {
     pub check: Check,
     pub model: MarkovSwitchingAr<'a>,

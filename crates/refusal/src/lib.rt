@@ -1,9 +1,11 @@
 // Refusals by name, document 01's and those of document 02. specs/Refusals.antt gives each its number, its place and its value.
+#![tactic(auto)]
+
 ghost use Rattle.std.specs.Prelude.{◌≡◌};
 ghost use Rattle.refusal.specs.Refusals.{said, saying};
 ghost use Rattle.refusal.specs.Checks.{◌before◌};
 
-#[derive(Drop)]
+#[derive(Clone, Copy)]
 pub enum Refusal {
     FewRegimes(usize),
     ManyWindows(usize),
@@ -32,7 +34,7 @@ pub enum Refusal {
 }
 
 // What a refusal says: its number in document 01 or 02, the place and the value that it carries, zero where it carries none.
-#[derive(Drop)]
+#[derive(Clone, Copy)]
 pub struct Said {
     pub number: usize,
     pub place: usize,
@@ -40,7 +42,7 @@ pub struct Said {
 }
 
 // What a check finds.
-#[derive(Drop)]
+#[derive(Clone, Copy)]
 pub enum Check {
     Passed,
     Failed(Refusal),

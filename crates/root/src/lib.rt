@@ -1,5 +1,7 @@
 // The root of an f64, to the nearest f64. A guess in float arithmetic is verified in whole numbers, exactly; where it
 // does not stand, and no input is known where it does not, the root is worked out digit by digit.
+#![tactic(auto)]
+
 ghost use Rattle.std.specs.Prelude.{◌≡◌, ◌+◌, ◌*◌, ◌%◌, ◌^◌, ◌<◌, ◌≤◌};
 ghost use Rattle.number.specs.Number.{float};
 ghost use Rattle.root.specs.Root.{root_pattern, root_square, root_of, IsRoot};

@@ -1,4 +1,6 @@
 // Rows of window weights in lent memory: storing and clearing them, and the probabilities of the labels.
+#![tactic(auto)]
+
 ghost use Rattle.std.specs.Prelude.{◌≡◌, ◌+◌, ◌*◌, ◌<◌, ◌≤◌, length, drop};
 ghost use Rattle.number.specs.Number.{zero⁺};
 ghost use Rattle.number.specs.Table.{fill_at};

@@ -3,6 +3,8 @@
 // line `pattern text short`, the pattern of the number as 16 hexadecimal digits (every NaN as 7ff8000000000000), the text that is
 // written of it, and the short one; or `wrong N`, N the place of the first byte at fault. The short texts have 0 to 18 digits in turn,
 // 0 on the first line, where 0 counts as 1 and 18 as 17.
+#![tactic(auto)]
+
 ghost use Rattle.std.specs.Prelude.{◌≤◌};
 
 use text_decimal_read::Parsed;

@@ -1,7 +1,9 @@
 // Numbers as lines of text, for the programs of the gate: 16 hexadecimal digits and a byte that ends them.
+#![tactic(auto)]
+
 ghost use Rattle.std.specs.Prelude.{◌≤◌, length};
 
-#[derive(Drop)]
+#[derive(Clone, Copy)]
 pub enum Line {
     Pattern(u64),
     Bad,

@@ -5,6 +5,8 @@
 // and the smoothed one, a row of k for each reading.
 // Standard output: the row that follows (0.25, 0.75) under the columns (0.5, 0.5) and (0.25, 0.75) by rule 2; how many cases
 // there are, and how many are far from what is expected, by rule 2 and by rule 1. Or `bad case N`, which ends the run.
+#![tactic(auto)]
+
 ghost use Rattle.std.specs.Prelude.{◌≡◌, ◌≤◌, length};
 
 use params::MsarParams;
@@ -20,7 +22,7 @@ const NEAR: f64 = 1e-13;
 type Table = [f64; 64];
 
 // Spec and parameters of a case, and whether all its lines were there.
-#[derive(Drop)]
+#[derive(Clone, Copy)]
 struct Given {
     good: bool,
     spec: MsarSpec,
@@ -28,7 +30,7 @@ struct Given {
 }
 
 // What a call answers, or what is expected of it, and whether it was there.
-#[derive(Drop)]
+#[derive(Clone, Copy)]
 struct Told {
     good: bool,
     loglik: f64,
@@ -37,7 +39,7 @@ struct Told {
 }
 
 // Whether the case was one, and whether it is far by rule 1 and by rule 2.
-#[derive(Drop)]
+#[derive(Clone, Copy)]
 struct Found {
     good: bool,
     one: bool,

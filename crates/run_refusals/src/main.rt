@@ -1,5 +1,7 @@
 // A record of parameters for each refusal of `MsarParams::new`, and specs for 1 to 3. A line has the number, the place and
 // the value's bit pattern, or `passed`; the file stdout has what the Rust answers (oracle/params).
+#![tactic(auto)]
+
 use params::MsarParams;
 use refusal::{Check, Refusal};
 use spec::{MsarSpec, Windows};

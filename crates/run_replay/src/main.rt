@@ -13,6 +13,8 @@
 // means, AR coefficients and variances as many as their counts say, and a line with how many other places are not +0.
 // Every NaN is 7ff8000000000000. A case that the record answers otherwise has `the record differs` before it. Or `bad case N`,
 // which ends the run.
+#![tactic(auto)]
+
 ghost use Rattle.std.specs.Prelude.{◌≡◌, ◌≤◌, length};
 
 use filter::Answer;
@@ -29,7 +31,7 @@ const MARK: f64 = 987654321.125;
 type Memory = [f64; 25600];
 
 // A case, its readings aside: the call, what it is given, and how many places of each memory it is lent.
-#[derive(Drop)]
+#[derive(Clone, Copy)]
 struct Given {
     which: usize,
     spec: MsarSpec,
@@ -43,7 +45,7 @@ struct Given {
 }
 
 // What a call answers, and what it leaves in memory. An answer of another call than fit has the parameters that it was given.
-#[derive(Drop)]
+#[derive(Clone, Copy)]
 struct Outcome {
     fitted: Fitted,
     work: Memory,

@@ -1,5 +1,7 @@
 // Stationary shares of four transition tables of document 01: the two of "Run, not proved", then P4 and P6. The file
 // stdout has what the Rust answers, as number, place and value of a refusal or as bit patterns of the shares.
+#![tactic(auto)]
+
 use params::MsarParams;
 use refusal::Check;
 

@@ -5,6 +5,8 @@
 // b AR blocks, in the order transition, means, ar, variances, every NaN as 7ff8000000000000. Kind 1: whether the first k readings, as
 // variances, have collapsed. Kind 2: whether a fit with the first reading as log-likelihood, collapsed where s is 1, is better than
 // one with the second, collapsed where b is 1.
+#![tactic(auto)]
+
 use params::MsarParams;
 use run_hex::Line;
 use text_words::least;

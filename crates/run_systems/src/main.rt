@@ -3,6 +3,8 @@
 // after an n above 16 no numbers come. Each line is 16 hexadecimal digits, n's too.
 // Standard output: for each system a line `solved` and n lines with the unknowns, or `singular C` with the column, or
 // `too large`, every NaN as 7ff8000000000000; or `bad line N`, which ends the run.
+#![tactic(auto)]
+
 ghost use Rattle.std.specs.Prelude.{◌≤◌, ◌<◌, ◌^◌};
 
 use linsolve::{Outcome, Solution};

@@ -1,6 +1,8 @@
 // Answers bit patterns with the root, the logarithm, the exponential and the normal log density, so that the gate compares
 // them with an outside judge's. Standard input: lines of 16 hexadecimal digits, each a binary64. Standard output: for each a
 // line `x root log exp lnpdf`, 16 digits each, every NaN as 7ff8000000000000; or `bad line N`, which ends the run.
+#![tactic(auto)]
+
 ghost use Rattle.std.specs.Prelude.{◌<◌, ◌^◌};
 
 use run_hex::Line;
@@ -10,7 +12,7 @@ fn answer(n: u64) -> bool {
     let x = number::of_pattern(n);
     run_hex::write(number::pattern(x), b' ')
         && run_hex::write(number::pattern(root::root(x)), b' ')
-        && run_hex::write(number::pattern(log::log(x)), b' ')
+        && run_hex::write(number::pattern(logarithm::log(x)), b' ')
         && run_hex::write(number::pattern(exp::exp(x)), b' ')
         && run_hex::write(number::pattern(normal::lnpdf(x)), b'\n')
 }

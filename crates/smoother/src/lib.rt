@@ -1,4 +1,6 @@
 // The smoother over the rows in work memory, from the last back to the first, each in the place of its filtered row.
+#![tactic(auto)]
+
 ghost use Rattle.std.specs.Prelude.{◌≡◌, ℕ, suc, ◌+◌, ◌*◌, ◌^◌, ◌<◌, ◌≤◌, length, drop};
 ghost use Rattle.number.specs.Table.{fill_at};
 ghost use Rattle.window.specs.Shape.{Shape};
@@ -34,7 +36,7 @@ fn sum_after(
 
 // How windows share sums: windows c, c + count, .. share one, over the successors from c * stride on. A row has `blocks`
 // times `count` windows.
-#[derive(Drop)]
+#[derive(Clone, Copy)]
 struct Shared {
     count: usize,
     stride: usize,

@@ -1,10 +1,12 @@
 // The specification of a model, and its window count.
+#![tactic(auto)]
+
 ghost use Rattle.std.specs.Prelude.{◌≡◌};
 ghost use Rattle.spec.specs.Spec.{window_count};
 
 use refusal::Refusal;
 
-#[derive(Drop)]
+#[derive(Clone, Copy)]
 pub struct MsarSpec {
     pub k_regimes: usize,
     pub order: usize,
@@ -12,7 +14,7 @@ pub struct MsarSpec {
     pub switching_variance: bool,
 }
 
-#[derive(Drop)]
+#[derive(Clone, Copy)]
 pub enum Windows {
     Count(usize),
     Refused(Refusal),

@@ -1,4 +1,6 @@
 // The stationary shares of the regimes.
+#![tactic(auto)]
+
 ghost use Rattle.std.specs.Prelude.{◌≡◌, ◌<◌, ◌≤◌};
 ghost use Rattle.refusal.specs.Checks.{each};
 ghost use Rattle.stationary.specs.Stationary.{entry, side, share_table, share_sides, share_check, none, solved_shares, shares_of};
@@ -10,7 +12,7 @@ use refusal::{Check, Refusal};
 const HAIR: f64 = -1e-9;
 
 // The shares, or the refusal that stands in their place.
-#[derive(Drop)]
+#[derive(Clone, Copy)]
 pub struct Shares {
     pub check: Check,
     pub values: [f64; 16],

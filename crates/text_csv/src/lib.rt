@@ -1,18 +1,20 @@
 // A line of a CSV file: a heading that names the columns, or a row of cells. docs/MODEL.md has the rules. Cells count from 0.
+#![tactic(auto)]
+
 ghost use Rattle.std.specs.Prelude.{◌≤◌, length};
 
 use text_decimal_read::Parsed;
 use text_words::{Count, Span};
 
 // How a column is asked for: by its heading, or by its place.
-#[derive(Drop)]
+#[derive(Clone, Copy)]
 pub enum Wanted {
     Named,
     Placed(usize),
 }
 
 // What the caller says of the first line: that it is a heading, that it is none, or nothing.
-#[derive(Drop)]
+#[derive(Clone, Copy)]
 pub enum Heading {
     Open,
     Given,
@@ -20,7 +22,7 @@ pub enum Heading {
 }
 
 // What the first line is: a heading, where no cell is a number; a row, where each is; or both, with a cell of either kind.
-#[derive(Drop)]
+#[derive(Clone, Copy)]
 pub enum First {
     Names,
     Row,
@@ -28,7 +30,7 @@ pub enum First {
 }
 
 // Where a column stands under a heading line.
-#[derive(Drop)]
+#[derive(Clone, Copy)]
 pub enum Place {
     At(usize),
     Nothing,

@@ -1,10 +1,12 @@
 // The grammar of a number, a byte at a time: what a byte adds to what was read, or that it is at fault.
+#![tactic(auto)]
+
 ghost use Rattle.std.specs.Prelude.{◌≡◌, ◌+◌, ◌*◌, ◌≤◌, ◌<◌, ◌^◌};
 ghost use Rattle.text_decimal_grammar.specs.Grammar.{digit_of, hex_of, nothing, moved, whole_digit, fraction_digit, exponent_digit, mark, after_sign, at_start, in_whole, after_zero, after_point, in_fraction, in_exponent, after_mark, in_word, in_hex, step};
 ghost use Rattle.text_decimal_grammar.specs.Room.{Room};
 
 // Where in a number the reader stands: what came last.
-#[derive(Drop)]
+#[derive(Clone, Copy)]
 pub enum Place {
     Start,
     Sign,
@@ -25,7 +27,7 @@ pub enum Place {
 }
 
 // What was read: the number is digits * 10 ^ up / 10 ^ down, times ten to the exponent, which `under` makes negative.
-#[derive(Drop)]
+#[derive(Clone, Copy)]
 pub struct State {
     pub place: Place,
     pub negative: bool,
@@ -36,7 +38,7 @@ pub struct State {
     pub exponent: usize,
 }
 
-#[derive(Drop)]
+#[derive(Clone, Copy)]
 pub enum Next {
     Go(State),
     Fault,

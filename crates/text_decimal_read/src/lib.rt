@@ -1,4 +1,6 @@
 // Decimal numbers: text to the nearest f64.
+#![tactic(auto)]
+
 ghost use Rattle.std.specs.Prelude.{◌≡◌};
 ghost use Rattle.text_decimal_read.specs.Text.{read_of};
 
@@ -6,7 +8,7 @@ mod reading;
 
 use text_decimal_grammar::Next;
 
-#[derive(Drop)]
+#[derive(Clone, Copy)]
 pub enum Parsed {
     Number(f64),
     // the place of the first byte at fault; the text's length where it ends too early

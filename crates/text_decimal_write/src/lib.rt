@@ -1,4 +1,6 @@
 // The decimal of 17 digits nearest to an f64, and its text.
+#![tactic(auto)]
+
 ghost use Rattle.std.specs.Prelude.{◌≡◌, List, ◌∷◌, [], ◌++◌, ℕ, ◌+◌, ◌-◌, ◌*◌, ◌/◌, ◌%◌, ◌≤◌, ◌<◌, ◌^◌, T, Float};
 ghost use Rattle.std.specs.Float.{binary64};
 ghost use Rattle.std.specs.Float.Ieee.{fits, to_bits};
@@ -9,14 +11,14 @@ ghost use Rattle.text_decimal_write.specs.Decimals.{settled, decimal_of, units_d
 ghost use Rattle.text_decimal_write.specs.Room.{guess_of, units_of, magnitude_text};
 
 // digits * 10 ^ (tens - 340)
-#[derive(Drop)]
+#[derive(Clone, Copy)]
 pub struct Decimal {
     pub digits: u64,
     pub tens: usize,
 }
 
 // The first `length` bytes are the text.
-#[derive(Drop)]
+#[derive(Clone, Copy)]
 pub struct Written {
     pub bytes: [u8; 32],
     pub length: usize,

@@ -1,4 +1,6 @@
 // Whole numbers below 2 ^ 2304, in 72 limbs of 32 binary digits, the lowest first: what decimals of every binary64 need.
+#![tactic(auto)]
+
 ghost use Rattle.std.specs.Prelude.{◌≡◌, not, ◌+◌, ◌-◌, ◌*◌, ◌/◌, ◌%◌, ◌^◌, ◌<◌, ◌≤◌, eqb, get_or, take, drop};
 ghost use Rattle.std.specs.Float.Ieee.{size};
 ghost use Rattle.text_limbs.specs.Limbs.{value, Limbs};
@@ -7,7 +9,7 @@ ghost use Rattle.text_limbs.specs.Remains.{halved_of};
 pub mod ten;
 
 // A number without its lowest digits, and whether one of those was not zero.
-#[derive(Drop)]
+#[derive(Clone, Copy)]
 pub struct Cut {
     pub whole: u64,
     pub rest: bool,

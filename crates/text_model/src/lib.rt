@@ -1,4 +1,6 @@
 // A MODEL file, line by line. docs/MODEL.md has its grammar. Places in a line count from 0.
+#![tactic(auto)]
+
 ghost use Rattle.std.specs.Prelude.{◌≤◌, length};
 ghost use Rattle.text_model.specs.Shaped.{Held};
 
@@ -10,7 +12,7 @@ use text_words::Count;
 
 // What was read so far: k and p with whether they are known, and the parameters, whose counts say what is known of them; of the
 // transition table so many rows.
-#[derive(Drop)]
+#[derive(Clone, Copy)]
 pub struct Draft {
     pub k: usize,
     pub p: usize,
@@ -20,7 +22,7 @@ pub struct Draft {
     pub params: MsarParams,
 }
 
-#[derive(Drop)]
+#[derive(Clone, Copy)]
 pub struct Step {
     pub outcome: Outcome,
     pub draft: Draft,
@@ -265,7 +267,7 @@ pub fn read(line: &[u8], d: Draft) -> Step {
 // ---- the end
 
 // The parameters that were read, and the spec that they have.
-#[derive(Drop)]
+#[derive(Clone, Copy)]
 pub struct Model {
     pub outcome: Outcome,
     pub spec: MsarSpec,

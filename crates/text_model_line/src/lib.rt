@@ -1,4 +1,6 @@
 // What a line of a MODEL file holds: a keyword, a size or a row of numbers; and how rows make a table. Places in a line count from 0.
+#![tactic(auto)]
+
 ghost use Rattle.std.specs.Prelude.{◌≡◌, ◌*◌, ◌<◌, ◌≤◌, length};
 
 use refusal::Refusal;
@@ -6,7 +8,7 @@ use text_decimal_read::Parsed;
 use text_words::Count;
 
 // What was expected where a line is at fault.
-#[derive(Drop)]
+#[derive(Clone, Copy)]
 pub enum Fault {
     Keyword,
     Once,
@@ -29,7 +31,7 @@ pub enum Fault {
     Variances,
 }
 
-#[derive(Drop)]
+#[derive(Clone, Copy)]
 pub enum Outcome {
     Fine,
     Wrong(Fault, usize),
@@ -37,7 +39,7 @@ pub enum Outcome {
 }
 
 // The numbers behind a keyword, and the place where they end.
-#[derive(Drop)]
+#[derive(Clone, Copy)]
 pub struct Row {
     pub outcome: Outcome,
     pub values: [f64; 16],
@@ -46,7 +48,7 @@ pub struct Row {
 }
 
 // What a line is, by its first word.
-#[derive(Drop)]
+#[derive(Clone, Copy)]
 pub enum Kind {
     Regimes,
     Order,

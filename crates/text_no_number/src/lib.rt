@@ -1,7 +1,9 @@
 // Why a text is no number, for a message that a person can act on.
+#![tactic(auto)]
+
 use text_decimal_read::Parsed;
 
-#[derive(Drop)]
+#[derive(Clone, Copy)]
 pub enum Why {
     // nothing stands there
     Empty,

@@ -1,11 +1,13 @@
 // A line of a SERIES file without columns: a number alone, a comment, or nothing. docs/MODEL.md has the rules. Places in a line count
 // from 0.
+#![tactic(auto)]
+
 ghost use Rattle.std.specs.Prelude.{◌≤◌, length};
 
 use text_decimal_read::Parsed;
 
 // What a line says.
-#[derive(Drop)]
+#[derive(Clone, Copy)]
 pub enum Item {
     Reading(f64),
     Blank,

@@ -1,17 +1,19 @@
 // Lines of text, taken apart and put together: words between blanks, cells between separators, whole numbers, bytes behind bytes.
 // Places in a line count from 0.
+#![tactic(auto)]
+
 ghost use Rattle.std.specs.Prelude.{◌≡◌, ◌≤◌, length};
 ghost use Rattle.text_words.specs.Words.{is_blank, in_word, past, word_from};
 ghost use Rattle.text_words.specs.Places.{Leads};
 
 // From `start` up to, not including, `end`.
-#[derive(Drop)]
+#[derive(Clone, Copy)]
 pub struct Span {
     pub start: usize,
     pub end: usize,
 }
 
-#[derive(Drop)]
+#[derive(Clone, Copy)]
 pub enum Count {
     Number(usize),
     Wrong,

@@ -1,15 +1,17 @@
 // Windows of labels by their numbers; row numbers and times, kept apart.
+#![tactic(auto)]
+
 ghost use Rattle.std.specs.Prelude.{◌≡◌, ℕ, suc, ◌+◌, ◌%◌, ◌^◌, ◌<◌, ◌≤◌};
 ghost use Rattle.window.specs.Windows.{label, labels, number, predecessor, successor};
 ghost use Rattle.window.specs.Shape.{WindowNumber};
 ghost use Rattle.window.specs.Time.{time_of};
 
 // The number of a row of results.
-#[derive(Drop)]
+#[derive(Clone, Copy)]
 pub struct Row(pub usize);
 
 // The place of a reading in the series.
-#[derive(Drop)]
+#[derive(Clone, Copy)]
 pub struct Time(pub usize);
 
 pub fn time_of(row: Row, order: usize) -> Time

@@ -7,7 +7,7 @@ use lib.ListN.{replicate}
 use Rattle.number.specs.Number.{zero⁺}
 use Rattle.number.specs.Table.{◌!◌, fill_at}
 use Rattle.number.proofs.Table.{fill_at_none, fill_at_long, fill_more}
-use Rattle.log.specs.Log.{log_of}
+use Rattle.logarithm.specs.Log.{log_of}
 use Rattle.density.proofs.Tables.{logs_filled}
 use Rattle.density.proofs.Rows.{again_filled}
 use Rattle.density.proofs.logarithms.Statement.{statement}

@@ -3,9 +3,9 @@ use native.Mathlib.Omega.{arith}
 use borrow.Author.Rules.{rules}
 use borrow.Author.Tests.{lt-ltb, le-ltb}
 use Rattle.rounding.proofs.Pattern.{number_pattern}
-use Rattle.log.specs.Log.{log_normal}
-use Rattle.log.proofs.log_normal.Statement.{statement}
-use Rattle.log.proofs.log_normal.Tie as tie
+use Rattle.logarithm.specs.Log.{log_normal}
+use Rattle.logarithm.proofs.log_normal.Statement.{statement}
+use Rattle.logarithm.proofs.log_normal.Tie as tie
 
 float-from-bits-f : tie.Need-float-from-bits-f
 float-from-bits-f c = number_pattern _ (omega arith)

@@ -1,9 +1,9 @@
 -- `log_out`: with k = 0 and without.
 use borrow.Author.Tests.{eq-eqb, ne_eqb}
 use borrow.Author.Rules.{rules}
-use Rattle.log.specs.Log.{log_out}
-use Rattle.log.proofs.log_out.Statement.{statement}
-use Rattle.log.proofs.log_out.Tie as tie
+use Rattle.logarithm.specs.Log.{log_out}
+use Rattle.logarithm.proofs.log_out.Statement.{statement}
+use Rattle.logarithm.proofs.log_out.Tie as tie
 
 returns : tie.Need-returns
 unfolding log_out

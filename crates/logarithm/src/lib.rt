@@ -5,8 +5,10 @@
 // Lg1 s^2 + .. + Lg7 s^14, with an error below 2^-58; so log (1 + f) = f - s (f - R), or f - (f^2/2 - s (f^2/2 + R)) near the ends of that range.
 // Sum: k ln 2 is added in two parts, LN2_HI with so few digits that k times it is exact.
 // Error: below one unit in the last place, as fdlibm states it. What is proved is that each operation is fdlibm's.
+#![tactic(auto)]
+
 ghost use Rattle.std.specs.Prelude.{◌≡◌};
-ghost use Rattle.log.specs.Log.{dk_of, log_poly, log_close, log_mid, log_out, log_far, log_normal, log_of};
+ghost use Rattle.logarithm.specs.Log.{dk_of, log_poly, log_close, log_mid, log_out, log_far, log_normal, log_of};
 
 // Lg1 to Lg7
 const LOG_L: [f64; 7] = [

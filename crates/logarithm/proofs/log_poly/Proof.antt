@@ -1,8 +1,8 @@
 -- `log_poly`: the table's entries are the definition's.
 use borrow.Author.Rules.{rules}
-use Rattle.log.specs.Log.{log_poly}
-use Rattle.log.proofs.log_poly.Statement.{statement}
-use Rattle.log.proofs.log_poly.Tie as tie
+use Rattle.logarithm.specs.Log.{log_poly}
+use Rattle.logarithm.proofs.log_poly.Statement.{statement}
+use Rattle.logarithm.proofs.log_poly.Tie as tie
 
 returns : tie.Need-returns
 unfolding log_poly

@@ -7,7 +7,7 @@ use Rattle.number.specs.Number.{◌<?◌, ◌=?◌, ◌⊕◌, ◌⊖◌, ◌⊗
 use Rattle.number.specs.Table.{◌!◌}
 use Rattle.rounding.proofs.Intervals.{Up, Lo, exact, wider, up_mul, up_add, up_sub, lo_add, up_div_to}
 use Rattle.rounding.proofs.Constants.{zero_up, half_up, two_up, two_lo}
-use Rattle.log.specs.Log.{log_l, ln2_hi, ln2_lo, third, dk_of, log_poly, log_close, log_mid, log_out, log_far}
+use Rattle.logarithm.specs.Log.{log_l, ln2_hi, ln2_lo, third, dk_of, log_poly, log_close, log_mid, log_out, log_far}
 
 -- ---- the constants
 

@@ -2,8 +2,8 @@
 use native.Mathlib.Omega.{arith}
 use borrow.Author.Rules.{rules}
 use Rattle.rounding.proofs.Whole.{sub_whole}
-use Rattle.log.proofs.shift.Statement.{statement}
-use Rattle.log.proofs.shift.Tie as tie
+use Rattle.logarithm.proofs.shift.Statement.{statement}
+use Rattle.logarithm.proofs.shift.Tie as tie
 
 returns : tie.Need-returns
 returns c = sub_whole _ _ (omega arith) (omega arith)

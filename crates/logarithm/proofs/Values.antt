@@ -3,7 +3,7 @@ use mathlib.Core.List.{[], ◌∷◌}
 use lib.Dec.{T}
 use lib.Ieee.{of_bits, to_bits, add, sub, mul, div, neg, eq, of_int}
 use Rattle.number.proofs.Values.{agrees, ◌gives◌}
-use Rattle.log.specs.Log.{log_of, log_poly, log_close, log_mid, log_out, log_far, log_normal}
+use Rattle.logarithm.specs.Log.{log_of, log_poly, log_close, log_mid, log_out, log_far, log_normal}
 
 pub log_values : T (agrees log_of (
     0x3FF0_0000_0000_0000 gives 0x0000_0000_0000_0000  -- 1: k = 0 and f = 0

@@ -1,9 +1,9 @@
 -- `log_mid`: with k = 0 and without.
 use borrow.Author.Tests.{eq-eqb, ne_eqb}
 use borrow.Author.Rules.{rules}
-use Rattle.log.specs.Log.{log_mid}
-use Rattle.log.proofs.log_mid.Statement.{statement}
-use Rattle.log.proofs.log_mid.Tie as tie
+use Rattle.logarithm.specs.Log.{log_mid}
+use Rattle.logarithm.proofs.log_mid.Statement.{statement}
+use Rattle.logarithm.proofs.log_mid.Tie as tie
 
 returns : tie.Need-returns
 unfolding log_mid

@@ -19,8 +19,8 @@ use Rattle.rounding.specs.Bounds.{Within}
 use Rattle.rounding.proofs.Choose.{le_or_lt}
 use Rattle.rounding.proofs.Intervals.{Exact, Up, within_finite, within_round, within_difference}
 use Rattle.rounding.proofs.Pattern.{pattern_units, units_mono, subnormal_units, units_of_lem, bits_value, Pattern, pattern}
-use Rattle.log.specs.Log.{dk_of, two54, log_normal, log_of}
-use Rattle.log.proofs.Bound.{pick, close_up, far_up}
+use Rattle.logarithm.specs.Log.{dk_of, two54, log_normal, log_of}
+use Rattle.logarithm.proofs.Bound.{pick, close_up, far_up}
 
 -- ---- k
 

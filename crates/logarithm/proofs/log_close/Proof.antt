@@ -1,9 +1,9 @@
 -- `log_close`: f zero or not, k zero or not.
 use borrow.Author.Rules.{rules}
 use borrow.Author.Tests.{eq-eqb, ne_eqb}
-use Rattle.log.specs.Log.{log_close}
-use Rattle.log.proofs.log_close.Statement.{statement}
-use Rattle.log.proofs.log_close.Tie as tie
+use Rattle.logarithm.specs.Log.{log_close}
+use Rattle.logarithm.proofs.log_close.Statement.{statement}
+use Rattle.logarithm.proofs.log_close.Tie as tie
 
 returns : tie.Need-returns
 unfolding log_close

@@ -1,10 +1,10 @@
 -- `log_far`: both ends of the range are one test in the code and two in the definition.
 use borrow.Author.Rules.{rules}
 use Rattle.number.specs.Number.{◌<?◌}
-use Rattle.log.specs.Log.{log_far}
-use Rattle.log.proofs.Tests.{either, neither}
-use Rattle.log.proofs.log_far.Statement.{statement}
-use Rattle.log.proofs.log_far.Tie as tie
+use Rattle.logarithm.specs.Log.{log_far}
+use Rattle.logarithm.proofs.Tests.{either, neither}
+use Rattle.logarithm.proofs.log_far.Statement.{statement}
+use Rattle.logarithm.proofs.log_far.Tie as tie
 
 returns : tie.Need-returns
 unfolding log_far

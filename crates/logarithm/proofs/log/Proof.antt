@@ -10,10 +10,10 @@ use lib.Dec.{T, ltb, leb}
 use lib.Ieee.{binary64, to_bits, add}
 use lib.Ieee.Compare.{differs_from_itself}
 use Rattle.number.proofs.Cases.{no_nan}
-use Rattle.log.specs.Log.{log_of}
-use Rattle.log.proofs.Tests.{first, none}
-use Rattle.log.proofs.log.Statement.{statement}
-use Rattle.log.proofs.log.Tie as tie
+use Rattle.logarithm.specs.Log.{log_of}
+use Rattle.logarithm.proofs.Tests.{first, none}
+use Rattle.logarithm.proofs.log.Statement.{statement}
+use Rattle.logarithm.proofs.log.Tie as tie
 
 -- 54 where x was multiplied, else 0
 scaled_small : (c : tie.Joined2) → c.if2.scaled ≤ 54
