@@ -1,0 +1,12 @@
+-- `copy`: so far as many places are filled as were copied.
+use Prim.Native.Nat.{◌-◌, ◌≤◌}
+use mathlib.Core.Path.{◌≡◌, refl}
+use native.Mathlib.Omega.{arith}
+use borrow.Author.Rules.{rules}
+use lib.ListN.{length, length-set}
+use Rattle.number.specs.Table.{◌!◌, fill_at}
+use Rattle.number.proofs.Table.{fill_at_none, fill_at_more}
+use Rattle.number.proofs.copy.Given as goal
+
+abbrev pub invariant-loop-i : goal.invariant-loop-i
+invariant-loop-i l = (l.i ≤ l.n) × (length l.to ≡ length l.initial.to) × (l.to ≡ fill_at l.at (λ j. l.from ! j) l.i l.initial.to)

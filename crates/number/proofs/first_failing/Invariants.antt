@@ -1,0 +1,13 @@
+-- `first_failing`: so far none has failed.
+use mathlib.Core.Path.{◌≡◌, sym, ◌∙◌}
+use Prim.Native.Nat.{◌-◌, ◌≤◌}
+use native.Mathlib.Omega.{arith}
+use borrow.Author.Rules.{rules}
+use borrow.Author.Tests.{not-false, not-true}
+use Rattle.number.specs.Table.{◌!◌}
+use Rattle.number.specs.Tests.{holds, first_not}
+use Rattle.number.proofs.First.{first_none, first_more, first_found}
+use Rattle.number.proofs.first_failing.Given as goal
+
+abbrev pub invariant-loop-i : goal.invariant-loop-i
+invariant-loop-i l = (l.i ≤ l.n) × (first_not (λ j. holds l.test (l.row ! j)) l.i ≡ l.i)
