@@ -62,8 +62,10 @@ def arguments(text):
 
 
 class Names:
-    def __init__(self, it):
+    def __init__(self, it, crate, func):
         self.it = it
+        self.callee = {}
+        self.own = clauses_of(crate).get(func.split(".")[-1], ([], []))
         self.needs = it["needs"]
         self.place = {}
         self.field = {}
@@ -71,7 +73,9 @@ class Names:
         self.named = set()
         self.parent = {}
         by = it["places_by_name"]
-        for i, (old, parent, (fo, fn), _callee, _subs) in enumerate(it["places"]):
+        for i, (old, parent, (fo, fn), callee, _subs) in enumerate(it["places"]):
+            if callee:
+                self.callee[norm(fo)] = callee
             self.place[norm(old)] = by[i]
             if fo:
                 self.field.setdefault(norm(fo), fn)
@@ -111,8 +115,21 @@ class Names:
 
         def one(m):
             n = m[1]
-            return "." + self.field.get(norm(n), n)
+            key = norm(n)
+            if key not in self.field and key.endswith("_lem"):
+                key = key[:-4]
+            return "." + self.field.get(key, n)
 
+        def ensured(m):
+            callee = self.callee.get(norm(m[1])) or self.callee.get(norm(m[1]).removesuffix("_lem"))
+            if not callee:
+                return m[0]
+            crate, _, rest = callee.partition("::")
+            req, ens = clauses_of(crate).get(rest.split("::")[-1], ([], []))
+            return "." + m[1] + ".ensures" + named(m[2], ens)
+
+        text = re.sub(r"\.([A-Za-z_][\w-]*)\.ensures((?:\.\d+)*)", ensured, text)
+        text = re.sub(r"\.requires((?:\.\d+)+)", lambda m: ".requires" + named(m[1], self.own[0]), text)
         text = re.sub(r"(?<=[\w)])\.([A-Za-z_][\w-]*)", one, text)
         # fields of earlier places can be named where they are wanted
         text = re.sub(r"(?:\.before)+(?=\.(?!before\b)[a-z])", "", text)
@@ -128,6 +145,99 @@ class Names:
         text = re.sub(r"\(not-(?:true|false) _ ([\w.-]+)\)", r"\1", text)
         text = re.sub(r"\bnot-(?:true|false) _ (?=\w[\w-]*\.)", "", text)
         return re.sub(r"\btie\.([A-Z][\w-]*)((?: (?:invariant|decreases)-[\w-]+)*)", one, text)
+
+
+CLAUSES = {}
+
+
+def clauses_of(crate):
+    """For each function of a crate, by its last name: the names of its requires and of its ensures."""
+    if crate in CLAUSES:
+        return CLAUSES[crate]
+    out = {}
+    import glob
+
+    for p in sorted(glob.glob(f"crates/{crate}/src/**/*.rt", recursive=True)):
+        with open(p, encoding="utf-8") as f:
+            text = f.read()
+        for m in re.finditer(r"\bfn (\w+)\s*(?:<[^>]*>)?\(", text):
+            rest = text[m.end():]
+            stop = re.search(r"\n *\{\n|\n\s*\}|\) *(?:-> [^\n{]*)?\{\n", rest)
+            head = rest[: stop.start() if stop else 2000]
+            req = re.findall(r"(?m)^\s*requires(?: (\w+))? \{", head)
+            ens = re.findall(r"(?m)^\s*ensures(?: (\w+))? \{", head)
+            out.setdefault(m[1], (req, ens))
+    CLAUSES[crate] = out
+    return out
+
+
+def named(path, names):
+    """`.1.0.x` of nested pairs to the clause's name, where there are several clauses."""
+    if len(names) < 2 or not all(names):
+        return path
+    parts = path.lstrip(".").split(".") if path else []
+    i = 0
+    while parts and i < len(names) - 1:
+        if parts[0] == "0":
+            return "." + names[i] + "".join("." + p for p in parts[1:])
+        if parts[0] != "1":
+            return path
+        parts = parts[1:]
+        i += 1
+    if i == len(names) - 1:
+        return "." + names[i] + "".join("." + p for p in parts)
+    return path
+
+
+def nested(text, n):
+    """The n parts of a nested pair (a, (b, c)), or None."""
+    text = text.strip()
+    if not (text.startswith("(") and text.endswith(")")):
+        return None
+    depth, parts, cur = 0, [], ""
+    for i, ch in enumerate(text[1:-1]):
+        if ch in "([{":
+            depth += 1
+        if ch in ")]}":
+            depth -= 1
+            if depth < 0:
+                return None
+        if ch == "," and depth == 0:
+            parts.append(cur.strip())
+            cur = ""
+        else:
+            cur += ch
+    if cur.strip():
+        parts.append(cur.strip())
+    if len(parts) == n:
+        return parts
+    if len(parts) == 2 and n > 2:
+        rest = nested(parts[1], n - 1)
+        return [parts[0]] + rest if rest else None
+    return None
+
+
+def recorded(clause, names):
+    """An answer's clause whose value is a nested pair, as a record of named parts."""
+    if len(names) < 2 or not all(names):
+        return clause
+    depth, last = 0, None
+    for i, ch in enumerate(clause):
+        if ch in "([{":
+            if depth == 0:
+                last = i
+            depth += 1
+        if ch in ")]}":
+            depth -= 1
+    if last is None:
+        return clause
+    before, value = clause[:last], clause[last:].rstrip()
+    if not re.search(r"(=|\bin|\.)\s*$", before):
+        return clause
+    parts = nested(value, len(names))
+    if not parts:
+        return clause
+    return before + "record { " + "; ".join(f"{n} = {p}" for n, p in zip(names, parts)) + " }"
 
 
 def live(names, body_args, index):
@@ -153,7 +263,7 @@ def substitute(text, table):
 
 
 def turn(path, it, crate, func):
-    names = Names(it)
+    names = Names(it, crate, func)
     with open(path, encoding="utf-8") as f:
         text = f.read()
     if "tie.spec" not in text:
@@ -248,7 +358,17 @@ def turn(path, it, crate, func):
                     if lines[j].startswith(name + " "):
                         lines[j] = new + lines[j][len(name):]
                         lines[j] = re.sub(r"^(\S+ \S+) κs =", r"\1 =", lines[j])
-                ans.append("\n".join(note + [names.types(names.fields("\n".join(lines)))]))
+                told = names.types(names.fields("\n".join(lines)))
+                if new.startswith("returns"):
+                    told = recorded(told, names.own[1])
+                m2 = re.match(r"(.*)-requires", new)
+                if m2:
+                    callee = next((c for f, c in names.callee.items() if norm(names.field.get(f, f)) == norm(m2[1]) or f == norm(m2[1])), None)
+                    if not callee:
+                        callee = next((c for c in names.callee.values() if c.split("::")[-1] == re.sub(r"-.*", "", m2[1])), None)
+                    if callee:
+                        told = recorded(told, clauses_of(callee.split("::")[0]).get(callee.split("::")[-1], ([], []))[0])
+                ans.append("\n".join(note + [told]))
             continue
         ans.append(names.types(names.fields(body)))
         # an own lemma that answers goals by its bare name
@@ -272,7 +392,8 @@ def turn(path, it, crate, func):
     top = "\n".join(comments[:1])
     if inv:
         invs = [i for i in inv if not isinstance(i, tuple)]
-        measures = [i[2] for i in inv if isinstance(i, tuple) and re.fullmatch(r"loop(-\d+)?", i[1])]
+        steps = {n.split("step-", 1)[1] for _o, n in names.needs if n.startswith("overflow_step-")}
+        measures = [i[2] for i in inv if isinstance(i, tuple) and not (i[1].startswith("loop-") and re.sub(r"^loop-", "", i[1]) in steps)]
         with open(os.path.join(folder, "Invariants.antt"), "w", encoding="utf-8") as f:
             f.write("\n".join(x for x in [top] if x) + ("\n" if top else "") + "\n".join(uses + [f"use {module}.Given as goal"]) + "\n\n" + "\n\n".join(invs + measures) + "\n")
     places = [f"use {module}.Goals.{{{', '.join(sorted(names.named))}}}"] if names.named else []

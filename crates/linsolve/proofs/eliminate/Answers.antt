@@ -1,0 +1,24 @@
+use Prim.Native.Nat.{◌-◌, ◌≤◌}
+use mathlib.Core.Bool.{true}
+use native.Mathlib.Omega.{arith}
+use borrow.Author.Rules.{rules}
+use Rattle.linsolve.specs.Solver.{system, eliminate_to}
+use Rattle.linsolve.specs.Promises.{Remains}
+use Rattle.linsolve.proofs.Steps.{columns_first, columns_more, columns_stop, columns_all}
+use Rattle.linsolve.proofs.eliminate.Goals as goal
+
+pub loop-c-init : goal.loop-c-init
+loop-c-init c = (omega arith, columns_first _ _ _ c.requires.1 c.requires.2)
+
+pub loop-c-preserved : goal.loop-c-preserved
+loop-c-preserved c =
+    let done = c.before.before.before.before.before in
+    (omega arith, columns_more _ _ _ done.loop-c.invariant.1 c.eliminate_column.ensures c.if-eliminate_column.true)
+
+pub returns-else-eliminate_column : goal.returns-else-eliminate_column
+returns-else-eliminate_column c =
+    let done = c.before.before.before.before.before in
+    columns_stop _ _ _ done.loop-c.invariant.1 c.eliminate_column.ensures c.if-eliminate_column.false c.loop-c-test.true
+
+pub returns : goal.returns
+returns c = columns_all _ _ _ c.loop-c.invariant.0 c.loop-c-test.false c.loop-c.invariant.1

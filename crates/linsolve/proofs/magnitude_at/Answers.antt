@@ -1,0 +1,6 @@
+-- `magnitude_at`: the magnitude of a cell.
+use borrow.Author.Rules.{rules}
+use Rattle.linsolve.proofs.magnitude_at.Goals as goal
+
+pub returns : goal.returns
+returns c = cc

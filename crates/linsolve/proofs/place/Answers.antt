@@ -1,0 +1,12 @@
+-- `place`: rows exchanged, or the pivot's row stands there already.
+use borrow.Author.Rules.{rules}
+use Rattle.linsolve.proofs.Steps.{placed_swap, placed_same}
+use Rattle.linsolve.proofs.place.Goals as goal
+
+pub returns-then-i-c : goal.returns-then-i-c
+returns-then-i-c c =
+    let start = c.before.before.before.before in
+    placed_swap _ _ _ _ start.requires.3 start.requires.4 _ start.requires.5 c.if-i-c.true c.swap_rows.ensures
+
+pub returns-else-i-c : goal.returns-else-i-c
+returns-else-i-c c = placed_same _ _ _ _ c.requires.3 c.requires.4 _ c.requires.5 c.if-i-c.false
