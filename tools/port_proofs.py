@@ -77,7 +77,8 @@ class Names:
             if callee:
                 self.callee[norm(fo)] = callee
             self.place[norm(old)] = by[i]
-            if fo:
+            # what Rattle numbers is its own name for a local, and no proof cites it
+            if fo and not re.fullmatch(re.escape(fo) + r"-\d+", fn):
                 self.field.setdefault(norm(fo), fn)
         for a in it["arms"]:
             if not a:
@@ -107,7 +108,7 @@ class Names:
 
         text = re.sub(r"\.([A-Za-z_][\w-]*)\.((?:given)(?:\.\d+)+)", arm, text)
         text = re.sub(r"\.taken\b", ".true", text)
-        text = re.sub(r"\.left\b(?!-)", ".false", text)
+        text = re.sub(r"\.((?:if|loop-test|loop_test|[\w-]*-test)[\w-]*)\.left\b(?!-)", r".\1.false", text)
         text = re.sub(r"\.inv\b(?!-)", ".invariant", text)
         text = re.sub(r"\.pre\b(?!-)", ".requires", text)
         text = re.sub(r"\.good\b(?!-)", ".well_formed", text)
@@ -131,6 +132,12 @@ class Names:
         text = re.sub(r"\.([A-Za-z_][\w-]*)\.ensures((?:\.\d+)*)", ensured, text)
         text = re.sub(r"\.requires((?:\.\d+)+)", lambda m: ".requires" + named(m[1], self.own[0]), text)
         text = re.sub(r"(?<=[\w)])\.([A-Za-z_][\w-]*)", one, text)
+        # a local that only names an earlier place, to read its fields
+        for m in list(re.finditer(r"\blet (\w[\w-]*) = (\w+)((?:\.before)+) in", text)):
+            rest = text[m.end():]
+            uses = re.findall(rf"(?<![\w.-]){re.escape(m[1])}(?![\w-])(\.\w+)?", rest)
+            if uses and all(u and u != ".before" for u in uses):
+                text = text.replace(m[0], f"let {m[1]} = {m[2]} in")
         # fields of earlier places can be named where they are wanted
         text = re.sub(r"(?:\.before)+(?=\.(?!before\b)[a-z])", "", text)
         return text

@@ -8,14 +8,14 @@ use native.Mathlib.Omega.{arith}
 use lib.Pow.{pow-add, pow_mono}
 use lib.Count.{count_leading_zeros, leading_top}
 use lib.Ieee.{size}
-use lib.Ieee.Digits.{size_le, size-lt}
+use lib.Ieee.Digits.{size-le, size-lt}
 use lib.ListN.{length, get_or, take, drop}
 use Rattle.text_limbs.specs.Limbs.{value, Limbs}
 use Rattle.text_limbs.proofs.Value.{weight, split_value, drop_value, take_below}
 
 -- n has z + 1 digits
 pub size_is : (n z : ℕ) → 2 ^ z ≤ n → n < 2 ^ suc z → size n ≡ suc z
-size_is n z a b = le_antisymm (size_le n (suc z) b) (lt_of_not-le (λ (h : size n ≤ z). not-le_of_lt (size-lt n) (le_trans (pow_mono h) a)))
+size_is n z a b = le_antisymm (size-le n (suc z) b) (lt_of_not-le (λ (h : size n ≤ z). not-le_of_lt (size-lt n) (le_trans (pow_mono h) a)))
 
 -- the highest limb that is not zero is limb i
 top_size : (l : List ℕ) (i : ℕ) → Limbs l → i < 72 → value (drop (suc i) l) ≡ 0 → 0 < get_or l i 0 → size (value l) + count_leading_zeros 64 (get_or l i 0) ≡ 32 * suc i + 32

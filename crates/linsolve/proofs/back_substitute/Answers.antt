@@ -11,7 +11,7 @@ loop-r-init c = (omega arith, back_first _ _)
 
 pub loop-r-preserved : goal.loop-r-preserved
 loop-r-preserved c =
-    let done = c.before.before.before.before in
+    let done = c in
     (omega arith, back_more _ _ _ _ c.loop-r-test.true done.loop-r.invariant.0 done.loop-r.invariant.1 c.less_known.ensures c.cell_of.ensures)
 
 pub returns : goal.returns

@@ -12,7 +12,7 @@ loop-r-init c = (omega arith, omega arith, clear_first _ _ _ _ c.requires.2 c.re
 
 pub loop-r-preserved : goal.loop-r-preserved
 loop-r-preserved c =
-    let done = c.before.before.before.before in
+    let done = c in
     (omega arith, omega arith, clear_more _ _ _ _ done.loop-r.invariant.1 done.loop-r.invariant.2 c.clear_row.ensures)
 
 pub returns : goal.returns

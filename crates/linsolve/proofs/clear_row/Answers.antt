@@ -7,10 +7,10 @@ pub returns-then-f : goal.returns-then-f
 returns-then-f c =
     let test = c.before.before.before in
     let cells = test.before in
-    let start = cells.before.before.before.before in
+    let start = cells in
     clear_yes _ _ _ _ start.requires.3 start.requires.4 _ cells.cell_of.ensures cells.cell_of-2.ensures test.if-f.true c.less_row.ensures
 
 pub returns-else-f : goal.returns-else-f
 returns-else-f c =
-    let start = c.before.before.before.before.before in
+    let start = c in
     clear_no _ _ _ _ start.requires.3 start.requires.4 _ c.cell_of.ensures c.cell_of-2.ensures c.if-f.false

@@ -11,7 +11,7 @@ loop-j-init c = (omega arith, omega arith, known_first _ _ _ _)
 
 pub loop-j-preserved : goal.loop-j-preserved
 loop-j-preserved c =
-    let done = c.before.before.before in
+    let done = c in
     (omega arith, omega arith, known_more _ _ _ _ _ done.loop-j.invariant.1 done.loop-j.invariant.2 c.cell_of.ensures)
 
 pub returns : goal.returns

@@ -30,5 +30,5 @@ less_part-requires c = (omega (arith, apart c.before), omega (arith, fits c.befo
 
 pub returns : goal.returns
 returns c =
-    let start = c.before.before.before.before in
+    let start = c in
     less_is _ _ _ _ start.requires.3 start.requires.4 _ _ start.requires.0 start.requires.1 start.requires.2 c.less_part.ensures

@@ -12,14 +12,14 @@ loop-r-init c = (omega arith, omega arith, best_first _ _ _ c.requires.1 c.magni
 
 pub loop-r-preserved : goal.loop-r-preserved
 loop-r-preserved c =
-    let done = c.before.before.before in
+    let done = c in
     let row = c.loop-r-test.true in
     let seen = c.magnitude_at-m.ensures in (
       omega arith,
       omega arith,
       ⊎_elim
           (λ w. rw (w.1, w.2) (best_moves _ _ _ _ done.loop-r.invariant.1 row done.loop-r.invariant.2 seen w.0.true))
-          (λ w. rw (w.1, w.2) (best_stays _ _ _ _ done.loop-r.invariant.1 row done.loop-r.invariant.2 seen w.0.false))
+          (λ w. rw (w.1, w.2) (best_stays _ _ _ _ done.loop-r.invariant.1 row done.loop-r.invariant.2 seen w.0.left))
           c.if-best-m.branch,
     )
 

@@ -5,7 +5,7 @@ use Rattle.linsolve.proofs.place.Goals as goal
 
 pub returns-then-i-c : goal.returns-then-i-c
 returns-then-i-c c =
-    let start = c.before.before.before.before in
+    let start = c in
     placed_swap _ _ _ _ start.requires.3 start.requires.4 _ start.requires.5 c.if-i-c.true c.swap_rows.ensures
 
 pub returns-else-i-c : goal.returns-else-i-c

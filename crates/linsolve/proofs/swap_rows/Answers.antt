@@ -24,5 +24,5 @@ exchange_parts-requires c = (apart c.before, fits c.before, c.requires.3)
 
 pub returns : goal.returns
 returns c =
-    let start = c.before.before.before.before in
+    let start = c in
     swap_is _ _ _ _ start.requires.3 start.requires.4 _ start.requires.0 start.requires.1 start.requires.2 c.exchange_parts.ensures

@@ -8,7 +8,7 @@ use Rattle.text_decimal_grammar.proofs.step.Goals.{Start}
 use Rattle.text_decimal_grammar.proofs.step.Goals as goal
 
 -- at place p, a byte leads where p says
-at_place : (c : Start) {p : Place} → c.args.s.place-1 ≡ p → step_at p c.args.s c.args.c ≡ step c.args.s c.args.c
+at_place : (c : Start) {p : Place} → c.args.s.place ≡ p → step_at p c.args.s c.args.c ≡ step c.args.s c.args.c
 unfolding step
 at_place c e = sym (ap (λ (p : Place). step_at p c.args.s c.args.c) e)
 

@@ -14,12 +14,12 @@ known s = parted _ _ _ s.requires.0 s.requires.1 s.two_to-p.ensures s.requires.2
 
 pub overflow_mul-high : goal.overflow_mul-high
 overflow_mul-high c =
-    let s = c.before.before in
+    let s = c in
     omega (arith, s.requires.0.small (s.args.g / 32 + 2))
 
 pub overflow_add-high-3 : goal.overflow_add-high-3
 overflow_add-high-3 c =
-    let s = c.before.before.before in
+    let s = c in
     omega (arith, s.requires.0.small (s.args.g / 32 + 2), s.requires.0.small (s.args.g / 32 + 1))
 
 pub nonzero_div-whole : goal.nonzero_div-whole
@@ -28,7 +28,7 @@ nonzero_div-whole c = (known c.before.before).power
 pub overflow_mul-whole : goal.overflow_mul-whole
 overflow_mul-whole c =
     let s = c.before.before in
-    omega (arith, (known s).whole-1, s.requires.2)
+    omega (arith, (known s).whole, s.requires.2)
 
 pub nonzero_div-whole-2 : goal.nonzero_div-whole-2
 nonzero_div-whole-2 c = (known c.before.before.before).power
@@ -36,7 +36,7 @@ nonzero_div-whole-2 c = (known c.before.before.before).power
 pub overflow_add-whole : goal.overflow_add-whole
 overflow_add-whole c =
     let s = c.before.before.before in
-    omega (arith, (known s).whole-1, s.requires.2)
+    omega (arith, (known s).whole, s.requires.2)
 
 pub nonzero_rem-l : goal.nonzero_rem-l
 nonzero_rem-l c = (known c.before.before.before.before).power
@@ -44,9 +44,9 @@ nonzero_rem-l c = (known c.before.before.before.before).power
 pub returns-then-l-i-ne0 : goal.returns-then-l-i-ne0
 returns-then-l-i-ne0 c =
     let k = known c.before.before.before.before.before in
-    (k.whole-1, k.some-rest c.if-l-i-ne0.true)
+    (k.whole, k.some-rest c.if-l-i-ne0.true)
 
 pub returns : goal.returns
 returns c =
     let k = known c.before.before.before.before.before.before in
-    (k.whole-1, c.some-rest.ensures ∙ ap (λ (x : ℕ). not (eqb x 0)) (sym (k.none c.if-l-i-ne0.false)))
+    (k.whole, c.some-rest.ensures ∙ ap (λ (x : ℕ). not (eqb x 0)) (sym (k.none c.if-l-i-ne0.false)))

@@ -23,4 +23,4 @@ over-r-requires-2 c =
 pub returns : goal.returns
 returns c =
     let h = lowered_last _ _ _ _ _ _ _ _ c.loop-left.invariant c.power.ensures c.over-r-2.ensures.0 c.over-r-2.ensures.1 in
-    (h.whole, h.false, c.over-r-2.ensures.2)
+    (h.whole, h.left, c.over-r-2.ensures.2)
