@@ -65,6 +65,8 @@ class Names:
     def __init__(self, it, crate, func):
         self.it = it
         self.callee = {}
+        clauses_of(crate)
+        self.params = PARAMS[crate].get(func.split(".")[-1], [])
         self.own = clauses_of(crate).get(func.split(".")[-1], ([], []))
         self.needs = it["needs"]
         self.place = {}
@@ -108,6 +110,7 @@ class Names:
 
         text = re.sub(r"\.([A-Za-z_][\w-]*)\.((?:given)(?:\.\d+)+)", arm, text)
         text = re.sub(r"\.taken\b", ".true", text)
+        text = re.sub(r"\.args\.t(\d+)\b", lambda m: ".args." + (self.params[int(m[1]) - 1] if int(m[1]) <= len(self.params) else "t" + m[1]), text)
         text = re.sub(r"\.((?:if|loop-test|loop_test|[\w-]*-test)[\w-]*)\.left\b(?!-)", r".\1.false", text)
         text = re.sub(r"\.inv\b(?!-)", ".invariant", text)
         text = re.sub(r"\.pre\b(?!-)", ".requires", text)
@@ -133,11 +136,17 @@ class Names:
         text = re.sub(r"\.requires((?:\.\d+)+)", lambda m: ".requires" + named(m[1], self.own[0]), text)
         text = re.sub(r"(?<=[\w)])\.([A-Za-z_][\w-]*)", one, text)
         # a local that only names an earlier place, to read its fields
-        for m in list(re.finditer(r"\blet (\w[\w-]*) = (\w+)((?:\.before)+) in", text)):
-            rest = text[m.end():]
-            uses = re.findall(rf"(?<![\w.-]){re.escape(m[1])}(?![\w-])(\.\w+)?", rest)
-            if uses and all(u and u != ".before" for u in uses):
-                text = text.replace(m[0], f"let {m[1]} = {m[2]} in")
+        done = False
+        while not done:
+            done = True
+            for m in reversed(list(re.finditer(r"\blet (\w[\w-]*) = (\w[\w-]*)((?:\.before)*) in\s", text))):
+                rest = text[m.end():]
+                word = rf"(?<![\w.-]){re.escape(m[1])}(?![\w-])"
+                uses = re.findall(word + r"(\.\w+)?", rest)
+                if uses and all(u and u != ".before" for u in uses):
+                    text = text[: m.start()] + re.sub(word, m[2], rest)
+                    done = False
+                    break
         # fields of earlier places can be named where they are wanted
         text = re.sub(r"(?:\.before)+(?=\.(?!before\b)[a-z])", "", text)
         return text
@@ -149,12 +158,16 @@ class Names:
             return name
 
         # `if !f(..)` gives the fact of f itself
-        text = re.sub(r"\(not-(?:true|false) _ ([\w.-]+)\)", r"\1", text)
-        text = re.sub(r"\bnot-(?:true|false) _ (?=\w[\w-]*\.)", "", text)
+        text = re.sub(r"\(not-(?:true|false) _ ([\w.-]+)\)", r"@\1", text)
+        text = re.sub(r"\bnot-(?:true|false) _ (?=\w[\w-]*\.)", "@", text)
+        # and where the fact of its negation is wanted, that is one step away
+        text = re.sub(r"(?<![@\w.-])(\w[\w.-]*\.if-not-[\w-]+\.(?:true|false))", r"(ap not \1)", text)
+        text = text.replace("@", "")
         return re.sub(r"\btie\.([A-Z][\w-]*)((?: (?:invariant|decreases)-[\w-]+)*)", one, text)
 
 
 CLAUSES = {}
+PARAMS = {}
 
 
 def clauses_of(crate):
@@ -162,6 +175,7 @@ def clauses_of(crate):
     if crate in CLAUSES:
         return CLAUSES[crate]
     out = {}
+    PARAMS[crate] = {}
     import glob
 
     for p in sorted(glob.glob(f"crates/{crate}/src/**/*.rt", recursive=True)):
@@ -171,6 +185,7 @@ def clauses_of(crate):
             rest = text[m.end():]
             stop = re.search(r"\n *\{\n|\n\s*\}|\) *(?:-> [^\n{]*)?\{\n", rest)
             head = rest[: stop.start() if stop else 2000]
+            PARAMS.setdefault(crate, {}).setdefault(m[1], re.findall(r"(?:^|,)\s*(?:mut )?(\w+)(?: *:|(?=[,)]))", re.split(r"\)\s*(?:->|\n|\{)", rest)[0] + ")"))
             req = re.findall(r"(?m)^\s*requires(?: (\w+))? \{", head)
             ens = re.findall(r"(?m)^\s*ensures(?: (\w+))? \{", head)
             out.setdefault(m[1], (req, ens))
@@ -403,6 +418,11 @@ def turn(path, it, crate, func):
         measures = [i[2] for i in inv if isinstance(i, tuple) and not (i[1].startswith("loop-") and re.sub(r"^loop-", "", i[1]) in steps)]
         with open(os.path.join(folder, "Invariants.antt"), "w", encoding="utf-8") as f:
             f.write("\n".join(x for x in [top] if x) + ("\n" if top else "") + "\n".join(uses + [f"use {module}.Given as goal"]) + "\n\n" + "\n\n".join(invs + measures) + "\n")
+    if any("ap not " in a for a in ans):
+        have_uses = "\n".join(uses)
+        for module_of, word in (("mathlib.Core.Path", "ap"), ("mathlib.Core.Bool", "not")):
+            if not re.search(rf"\{{(?:[^}}]*, )?{word}(?:,[^}}]*)?\}}", have_uses):
+                uses = uses + [f"use {module_of}.{{{word}}}"]
     places = [f"use {module}.Goals.{{{', '.join(sorted(names.named))}}}"] if names.named else []
     if ans:
         with open(os.path.join(folder, "Answers.antt"), "w", encoding="utf-8") as f:

@@ -1,0 +1,20 @@
+use mathlib.Core.Path.{◌≡◌}
+use Prim.Native.Nat.{◌-◌, ◌≤◌}
+use native.Mathlib.Omega.{arith}
+use borrow.Author.Rules.{rules}
+use lib.ListN.{replicate}
+use Rattle.number.proofs.Table.{fill_at_none, fill_more}
+use Rattle.number.specs.Table.{fill_at}
+use Rattle.number.specs.Number.{zero⁺}
+use Rattle.params.specs.Durations.{duration}
+use Rattle.params.proofs.stays.Goals as goal
+
+pub loop-i-init : goal.loop-i-init
+loop-i-init c = (omega arith, fill_at_none _ _ _)
+
+pub loop-i-preserved : goal.loop-i-preserved
+unfolding duration
+loop-i-preserved c = (omega arith, fill_more _ _ _ c.loop-i.invariant.1 (rw c.step.ensures) (omega arith))
+
+pub returns : goal.returns
+returns c = let e : c.loop-i.i ≡ c.args.q.means_count = omega arith in rw e at c.loop-i.invariant.1
