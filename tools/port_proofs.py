@@ -135,6 +135,7 @@ class Names:
         text = re.sub(r"\.([A-Za-z_][\w-]*)\.ensures((?:\.\d+)*)", ensured, text)
         text = re.sub(r"\.requires((?:\.\d+)+)", lambda m: ".requires" + named(m[1], self.own[0]), text)
         text = re.sub(r"(?<=[\w)])\.([A-Za-z_][\w-]*)", one, text)
+        text = re.sub(r"(?:\.before)+(?=\.(?!before\b)[a-z])", "", text)
         # a local that only names an earlier place, to read its fields
         done = False
         while not done:
