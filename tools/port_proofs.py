@@ -135,19 +135,6 @@ class Names:
         text = re.sub(r"\.([A-Za-z_][\w-]*)\.ensures((?:\.\d+)*)", ensured, text)
         text = re.sub(r"\.requires((?:\.\d+)+)", lambda m: ".requires" + named(m[1], self.own[0]), text)
         text = re.sub(r"(?<=[\w)])\.([A-Za-z_][\w-]*)", one, text)
-        text = re.sub(r"(?:\.before)+(?=\.(?!before\b)[a-z])", "", text)
-        # a local that only names an earlier place, to read its fields
-        done = False
-        while not done:
-            done = True
-            for m in reversed(list(re.finditer(r"\blet (\w[\w-]*) = (\w[\w-]*)((?:\.before)*) in\s", text))):
-                rest = text[m.end():]
-                word = rf"(?<![\w.-]){re.escape(m[1])}(?![\w-])"
-                uses = re.findall(word + r"(\.\w+)?", rest)
-                if uses and all(u and u != ".before" for u in uses):
-                    text = text[: m.start()] + re.sub(word, m[2], rest)
-                    done = False
-                    break
         # fields of earlier places can be named where they are wanted
         text = re.sub(r"(?:\.before)+(?=\.(?!before\b)[a-z])", "", text)
         return text
@@ -285,6 +272,52 @@ def substitute(text, table):
     return re.sub(r"(?<![^\s(){},;:@\"«»\[\]λ])([^\s(){},.;:@\"«»\[\]]+)", one, text)
 
 
+# an expression for a place: a variable, with the places before it
+PLACE = r"(\w[\w-]*)((?:\.before)*)(?![\w.-])"
+
+
+def projections(text):
+    """The names of definitions that only lead to an earlier place, and the text without them."""
+    found = set()
+    while True:
+        hit = None
+        for m in re.finditer(
+            r"(?m)^( *)(?:abbrev )?(\S+) : ((?:\(\w+ : tie\.[^()]*\) → |tie\.[A-Z][^→\n]* → )?)tie\.(?!Need)[A-Z][^→\n]*\n(?:\1\2((?: \w+)?) =\s+([^\n]*)\n)",
+            text,
+        ):
+            body = m[5].strip()
+            inner = body
+            for n in found:
+                inner = re.sub(rf"(?<![\w.-]){re.escape(n)} ", "", inner)
+            inner = inner.replace("(", "").replace(")", "")
+            if re.fullmatch(r"\w[\w-]*(?:\.before)*", inner) and (inner.split(".")[0] in (m[4].strip() or "c", "c") or inner.split(".")[0] in found):
+                hit = m
+                break
+        if not hit:
+            return found, text
+        found.add(hit[2])
+        text = text[: hit.start()] + text[hit.end():]
+        text = re.sub(r"\n{3,}", "\n\n", text)
+
+
+def collapsed(text, root, found):
+    """The text with each expression for a place as its root variable alone."""
+    word = lambda n: rf"(?<![\w.-]){re.escape(n)}(?![\w-])"
+    r = re.escape(root)
+    while True:
+        old = text
+        text = re.sub(rf"(?<![\w.-])({r})(?:\.before)+", r"\1", text)
+        for n in found:
+            text = re.sub(rf"\({word(n)} {r}\)", root, text)
+            text = re.sub(rf"{word(n)} {r}(?![\w.-])", root, text)
+        m = re.search(rf"\blet (\w[\w-]*)(?: : [^=\n]*)? = {r} in\s", text)
+        if m:
+            text = text[: m.start()] + re.sub(word(m[1]), root, text[m.end():])
+        text = re.sub(rf"\({r}\)", root, text)
+        if text == old:
+            return text
+
+
 def turn(path, it, crate, func):
     names = Names(it, crate, func)
     with open(path, encoding="utf-8") as f:
@@ -294,6 +327,24 @@ def turn(path, it, crate, func):
     m = re.search(r"tie\.spec\b(.*)\)\s*$", text, re.S)
     args = arguments(m[1].strip().rstrip(")") if False else m[1])
     head = text[: text.rindex("\npub ")]
+    found, head = projections(head)
+    # what takes a place: a lemma over a place, or the members of a module over one
+    takes = {}
+    for m2 in re.finditer(r"(?m)^(?:abbrev )?(\S+) : \(\w+ : tie\.([A-Z][\w-]*)", head):
+        takes[m2[1]] = m2[2]
+    for m2 in re.finditer(r"(?m)^module _ \(\w+ : tie\.([A-Z][\w-]*)[^\n]*where\n((?:(?: +[^\n]*)?\n)*)", head + "\n"):
+        for m3 in re.finditer(r"(?m)^  (?:abbrev )?(\S+) :", m2[2]):
+            takes[m3[1]] = m2[1]
+    asked = {n: q for (_o, n), (_p, q) in zip(it["needs"], it["asked_at"])}
+
+    def at_places(text, root, goal_name):
+        """Each lemma over a place gets it from the goal."""
+        for n, old in takes.items():
+            new = names.place.get(norm(old), old)
+            if goal_name and asked.get(goal_name) != new:
+                text = re.sub(rf"(?<![\w.-]){re.escape(n)} {re.escape(root)}(?![\w.-])", f"{n} (goal.at.{goal_name} {root}).{new}", text)
+        return text
+
     loops = len(it["loops"])
     args = [a for a in args if a]
     own = [a for a in args if re.fullmatch(r"(invariant|decreases)[\w-]*", a)]
@@ -381,7 +432,10 @@ def turn(path, it, crate, func):
                     if lines[j].startswith(name + " "):
                         lines[j] = new + lines[j][len(name):]
                         lines[j] = re.sub(r"^(\S+ \S+) κs =", r"\1 =", lines[j])
-                told = names.types(names.fields("\n".join(lines)))
+                mm = re.search(r"(?m)^" + re.escape(new) + r" (\w+)", "\n".join(lines))
+                root = mm[1] if mm else "c"
+                told = names.types(names.fields(collapsed("\n".join(lines), root, found)))
+                told = at_places(told, root, new)
                 if new.startswith("returns"):
                     told = recorded(told, names.own[1])
                 m2 = re.match(r"(.*)-requires", new)
@@ -393,6 +447,11 @@ def turn(path, it, crate, func):
                         told = recorded(told, clauses_of(callee.split("::")[0]).get(callee.split("::")[-1], ([], []))[0])
                 ans.append("\n".join(note + [told]))
             continue
+        mm = re.search(r"\((\w+) : tie\.", body)
+        if mm:
+            body = collapsed(body, mm[1], found)
+            for n in found:
+                body = re.sub(rf"(?<![\w.-]){re.escape(n)}\.", mm[1] + ".", body)
         ans.append(names.types(names.fields(body)))
         # an own lemma that answers goals by its bare name
         m = re.match(r"(?:abbrev )?(\S+) :", code[0])
@@ -408,7 +467,7 @@ def turn(path, it, crate, func):
                 extra.append((new, "c", f"{g} c"))
     for new, c, body in extra:
         if new not in have:
-            ans.append(f"pub {new} : goal.{new}\n{new} {c} = " + names.types(names.fields(body)))
+            ans.append(f"pub {new} : goal.{new}\n{new} {c} = " + at_places(names.types(names.fields(collapsed(body, c, found))), c, new))
             have.add(new)
     module = f"Rattle.{crate}.proofs.{func}"
     folder = os.path.dirname(path)

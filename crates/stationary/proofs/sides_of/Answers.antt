@@ -1,0 +1,23 @@
+use mathlib.Core.Path.{◌≡◌}
+use native.Mathlib.Omega.{arith}
+use borrow.Author.Rules.{rules}
+use Prim.Native.Nat.{◌-◌, ◌≤◌}
+use lib.ListN.{replicate}
+use Rattle.number.specs.Number.{zero⁺}
+use Rattle.number.specs.Table.{fill_at}
+use Rattle.number.proofs.Table.{fill_at_none, fill_more}
+use Rattle.stationary.specs.Stationary.{side, share_sides}
+use Rattle.stationary.proofs.sides_of.Goals as goal
+
+pub loop-i-init : goal.loop-i-init
+loop-i-init c = (omega arith, fill_at_none 0 _ _)
+
+pub loop-i-smaller : goal.loop-i-smaller
+loop-i-smaller c = omega arith
+
+pub loop-i-preserved : goal.loop-i-preserved
+loop-i-preserved c = (omega arith, fill_more _ _ _ c.loop-i.invariant.1 c.side_at.ensures (omega arith))
+
+pub returns : goal.returns
+unfolding share_sides
+returns c = let e : c.loop-i.i ≡ c.args.n = omega arith in rw e at c.loop-i.invariant.1

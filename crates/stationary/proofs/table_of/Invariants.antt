@@ -1,0 +1,18 @@
+-- `table_of` meets its contract: the system's table, place by place.
+use mathlib.Core.Path.{◌≡◌}
+use native.Mathlib.Omega.{arith}
+use borrow.Author.Rules.{rules}
+use Prim.Native.Nat.{◌-◌, ◌*◌, ◌≤◌}
+use native.Mathlib.Nat.{mul-le-mul}
+use lib.ListN.{replicate}
+use Rattle.number.specs.Number.{zero⁺}
+use Rattle.number.specs.Table.{fill_at}
+use Rattle.number.proofs.Table.{fill_at_none, fill_more}
+use Rattle.stationary.specs.Stationary.{entry, share_table}
+use Rattle.stationary.proofs.table_of.Given as goal
+
+abbrev pub invariant-loop-e : goal.invariant-loop-e
+invariant-loop-e l = (l.e ≤ l.n * l.n) × (l.a ≡ fill_at 0 (entry l.n l.transition) l.e (replicate 256 zero⁺)) × (l.n * l.n ≤ 256)
+
+abbrev pub decreases-loop-e : goal.decreases-loop-e
+decreases-loop-e l = l.n * l.n - l.e
