@@ -17,7 +17,7 @@ import tempfile
 
 
 def norm(n):
-    return n.replace("-", "_")
+    return n.replace("-", "_").lower()
 
 
 def blocks(text):
@@ -78,7 +78,9 @@ class Names:
         for i, (old, parent, (fo, fn), callee, _subs) in enumerate(it["places"]):
             if callee:
                 self.callee[norm(fo)] = callee
-            self.place[norm(old)] = by[i]
+            # the last place of an arm has the arm's own name
+            arm_of = it["arms"][i]
+            self.place[norm(old)] = re.sub(r"^(In-[A-Za-z].*?)-\d+$", r"\1", by[i]) if arm_of and "In-" + arm_of[0][3:] == re.sub(r"-\d+$", "", by[i]) else by[i]
             # what Rattle numbers is its own name for a local, and no proof cites it
             if fo and not re.fullmatch(re.escape(fo) + r"-\d+", fn):
                 self.field.setdefault(norm(fo), fn)
@@ -132,6 +134,17 @@ class Names:
             req, ens = clauses_of(crate).get(rest.split("::")[-1], ([], []))
             return "." + m[1] + ".ensures" + named(m[2], ens)
 
+        # a local for all that is required, or that a call ensures
+        for m in list(re.finditer(r"\blet (\w[\w-]*) = ([\w.-]*?)\.(requires|ensures) in\s", text)):
+            names = self.own[0]
+            if m[3] == "ensures":
+                callee = self.callee.get(norm(m[2].split(".")[-1])) or self.callee.get(norm(m[2].split(".")[-1]).removesuffix("_lem"))
+                if not callee:
+                    continue
+                crate, _, rest = callee.partition("::")
+                names = clauses_of(crate).get(rest.split("::")[-1], ([], []))[1]
+            word = rf"(?<![\w.-]){re.escape(m[1])}((?:\.\d+)+)"
+            text = text[: m.end()] + re.sub(word, lambda x: m[1] + named(x[1], names), text[m.end():])
         text = re.sub(r"\.([A-Za-z_][\w-]*)\.ensures((?:\.\d+)*)", ensured, text)
         text = re.sub(r"\.requires((?:\.\d+)+)", lambda m: ".requires" + named(m[1], self.own[0]), text)
         text = re.sub(r"(?<=[\w)])\.([A-Za-z_][\w-]*)", one, text)

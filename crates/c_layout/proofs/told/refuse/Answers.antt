@@ -1,0 +1,6 @@
+-- `told::refuse` spells a refusal.
+use borrow.Author.Rules.{rules}
+use Rattle.c_layout.proofs.told.refuse.Goals as goal
+
+pub returns : goal.returns
+returns c = cc

@@ -1,0 +1,16 @@
+-- The steps into the windows, window by window.
+use Prim.Native.Nat.{◌-◌, ◌≤◌}
+use mathlib.Core.Path.{◌≡◌, refl}
+use native.Mathlib.Omega.{arith}
+use borrow.Author.Rules.{rules}
+use lib.ListN.{replicate}
+use Rattle.number.specs.Number.{zero⁺}
+use Rattle.number.specs.Table.{fill_at}
+use Rattle.number.proofs.Table.{fill_at_none, fill_more}
+use Rattle.prediction.specs.Steps.{step_at}
+use Rattle.prediction.proofs.Places.{steps_below}
+use Rattle.prediction.proofs.Turns.{step_is}
+use Rattle.prediction.proofs.steps.Given as goal
+
+abbrev pub invariant-loop-a : goal.invariant-loop-a
+invariant-loop-a l = (l.a ≤ l.m) × (l.k ≡ l.q.means_count) × (l.row ≡ fill_at 0 (step_at l.q) l.a (replicate 256 zero⁺))

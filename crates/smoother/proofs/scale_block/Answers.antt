@@ -1,0 +1,19 @@
+use Prim.Native.Nat.{◌-◌, ◌≤◌}
+use mathlib.Core.Path.{◌≡◌, refl}
+use native.Mathlib.Omega.{arith}
+use borrow.Author.Rules.{rules}
+use lib.ListN.{length-set, length, drop}
+use Rattle.number.proofs.Table.{fill_at_none, fill_at_more}
+use Rattle.number.specs.Table.{fill_at}
+use Rattle.smoother.specs.Steps.{scaled_at}
+use Rattle.smoother.proofs.Scaled.{scaled_here}
+use Rattle.smoother.proofs.scale_block.Goals as goal
+
+pub loop-c-init : goal.loop-c-init
+loop-c-init c = (omega arith, refl, fill_at_none _ _ _)
+
+pub loop-c-preserved : goal.loop-c-preserved
+loop-c-preserved c = (omega arith, simp length-set (omega arith), fill_at_more _ _ _ _ c.loop-c.invariant.2 (scaled_here _ c.args.at _ c.args.work.now c.loop-c.invariant.2 (omega arith)) (omega arith))
+
+pub returns : goal.returns
+returns c = let e : c.loop-c.c ≡ c.args.count = omega arith in rw e at c.loop-c.invariant.2

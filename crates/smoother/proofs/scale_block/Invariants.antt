@@ -1,0 +1,14 @@
+-- `scale_block` meets its contract: a block times the sums, place by place.
+use Prim.Native.Nat.{◌-◌, ◌≤◌}
+use mathlib.Core.Path.{◌≡◌, refl}
+use native.Mathlib.Omega.{arith}
+use borrow.Author.Rules.{rules}
+use lib.ListN.{length-set, length, drop}
+use Rattle.number.proofs.Table.{fill_at_none, fill_at_more}
+use Rattle.number.specs.Table.{fill_at}
+use Rattle.smoother.specs.Steps.{scaled_at}
+use Rattle.smoother.proofs.Scaled.{scaled_here}
+use Rattle.smoother.proofs.scale_block.Given as goal
+
+abbrev pub invariant-loop-c : goal.invariant-loop-c
+invariant-loop-c l = (l.c ≤ l.count) × (length l.work ≡ length l.initial.work) × (l.work ≡ fill_at l.at (scaled_at l.sums (drop l.at l.initial.work)) l.c l.initial.work)

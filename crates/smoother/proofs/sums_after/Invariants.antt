@@ -1,0 +1,15 @@
+-- `sums_after` meets its contract: the shared sums, one after another.
+use Prim.Native.Nat.{◌+◌, ◌*◌, ◌-◌, ◌%◌, ◌<◌, ◌≤◌}
+use mathlib.Core.Path.{◌≡◌, refl, sym}
+use native.Mathlib.Nat.{zero-mod, mod-lt}
+use native.Mathlib.Omega.{arith}
+use borrow.Author.Rules.{rules}
+use lib.ListN.{length-set, length, drop}
+use Rattle.number.proofs.Table.{fill_at_none, fill_more}
+use Rattle.number.specs.Table.{fill_at}
+use Rattle.smoother.specs.Steps.{shared_sum}
+use Rattle.smoother.proofs.Common.{sum_of_label}
+use Rattle.smoother.proofs.sums_after.Given as goal
+
+abbrev pub invariant-loop-c : goal.invariant-loop-c
+invariant-loop-c l = (l.c ≤ l.count) × (length l.sums ≡ length l.initial.sums) × (l.s ≡ l.c % l.k) × (l.sums ≡ fill_at 0 (shared_sum l.k l.stride l.transition (drop l.smoothed l.work) (drop l.predicted l.work)) l.c l.initial.sums)
