@@ -198,7 +198,7 @@ whole_part s m e h =
     (record {
       is = small_rest _ (m * up e) (down e) (p.0 * up p.1) (down p.1) (v.0 * up v.1) (down v.1) c.2 p.3 v.3 c.0 c.1;
       le = c.2;
-      few = subst Few (sym re) (record { from = (refl, v.3.at_least_lem 1 2 (lit< tt) (exact_small 1 1 (lit< tt) (lit≤ tt)) (half_more (p.0 * up p.1) (down p.1))); within = in-v });
+      few = subst Few (sym re) (record { from = (refl, v.3.at_least 1 2 (lit< tt) (exact_small 1 1 (lit< tt) (lit≤ tt)) (half_more (p.0 * up p.1) (down p.1))); within = in-v });
     })
 
 -- of an x with the sign s: v and n are below 1120, hi and lo are small

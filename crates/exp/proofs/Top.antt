@@ -10,7 +10,7 @@ use lib.IntN.{negsuc}
 use lib.Ieee.{Float, fin, binary64, neg, add, sub, le, of_bits, fits, is_nan, size}
 use lib.Ieee.Fits.{sub-fits, div-fits}
 use lib.Ieee.Exact.{HasValue}
-use lib.Ieee.Digits.{size-lt, size_le, size_reaches}
+use lib.Ieee.Digits.{size-lt, size-le, size_reaches}
 use Rattle.number.specs.Number.{◌⊖◌, ◌⊗◌, ◌⊘◌, one, two, zero⁺}
 use Rattle.rounding.specs.Bounds.{Within}
 use Rattle.rounding.specs.Signed.{plus_part, minus_part}
@@ -77,7 +77,7 @@ between_at v j l h J =
     sums_2 j J = omega arith
 
 between : (v : ℕ) → 0 < v → v < 2 ^ 1074 → Between v
-between v p h = go (size v) (size-lt v) (size_le v 1074 h) (size_reaches v)
+between v p h = go (size v) (size-lt v) (size-le v 1074 h) (size_reaches v)
   where
     go : (z : ℕ) → v < 2 ^ z → z ≤ 1074 → ((j : ℕ) → j < z → 2 ^ j ≤ v) → Between v
     go zero a b f = absurd (omega (arith, a, p))

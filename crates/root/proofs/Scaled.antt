@@ -3,7 +3,7 @@ use Rattle.std.proofs.Common.{◌≡◌, ℕ, zero, suc, ◌+◌, ◌-◌, ◌*�
 use native.Mathlib.Nat.{mul-mul-mul_comm, pow-succ', one-le-pow}
 use lib.Count.{count_leading_zeros, leading_top}
 use lib.Ieee.{binary64, size, of_bits}
-use lib.Ieee.Digits.{size-lt, size_le}
+use lib.Ieee.Digits.{size-lt, size-le}
 use Rattle.number.specs.Number.{float}
 use Rattle.rounding.proofs.Pattern.{units_at, pattern_units, subnormal_units, bits_value, units_of_lem}
 use Rattle.root.specs.Root.{root_square, dropped, whole_root, root_pattern}
@@ -99,7 +99,7 @@ four_pow (suc k) =
     pow-succ' 4 k ∙ ap (λ (z : ℕ). 4 * z) (four_pow k) ∙ mul-mul-mul_comm 2 2 (2 ^ k) (2 ^ k) ∙ ap (λ (z : ℕ). z * (2 * 2 ^ k)) (sym (pow-succ' 2 k)) ∙ ap (λ (z : ℕ). 2 ^ suc k * z) (sym (pow-succ' 2 k))
 
 size_is : (n i j : ℕ) → 2 ^ i ≤ n → n < 2 ^ j → j ≡ suc i → size n ≡ j
-size_is n i j h k e = go (size n) (size_le n j k) (lt_of_not-le (λ (g : size n ≤ i). not-le_of_lt (size-lt n) (le_trans (pow_mono g) h)))
+size_is n i j h k e = go (size n) (size-le n j k) (lt_of_not-le (λ (g : size n ≤ i). not-le_of_lt (size-lt n) (le_trans (pow_mono g) h)))
   where
     go : (z : ℕ) → z ≤ j → i < z → z ≡ j
     go z a b = omega arith
