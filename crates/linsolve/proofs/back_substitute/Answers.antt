@@ -1,8 +1,6 @@
-use Prim.Native.Nat.{◌-◌, ◌≤◌}
+use Prim.Native.Nat.{◌-◌}
 use mathlib.Core.Path.{◌≡◌}
 use native.Mathlib.Omega.{arith}
-use borrow.Author.Rules.{rules}
-use Rattle.linsolve.specs.Solver.{system, back_to}
 use Rattle.linsolve.proofs.Steps.{back_first, back_more}
 use Rattle.linsolve.proofs.back_substitute.Goals as goal
 

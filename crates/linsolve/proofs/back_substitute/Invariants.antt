@@ -1,10 +1,7 @@
 -- `back_substitute`: so far the unknowns from r on.
 use Prim.Native.Nat.{◌-◌, ◌≤◌}
 use mathlib.Core.Path.{◌≡◌}
-use native.Mathlib.Omega.{arith}
-use borrow.Author.Rules.{rules}
 use Rattle.linsolve.specs.Solver.{system, back_to}
-use Rattle.linsolve.proofs.Steps.{back_first, back_more}
 use Rattle.linsolve.proofs.back_substitute.Given as goal
 
 abbrev pub invariant-loop-r : goal.invariant-loop-r

@@ -1,7 +1,6 @@
 -- `cell_of`: the place lies within the table.
 use Prim.Native.Nat.{◌+◌, ◌*◌, ◌<◌}
 use native.Mathlib.Omega.{arith}
-use borrow.Author.Rules.{rules}
 use Rattle.number.proofs.Table.{cell_below}
 use Rattle.linsolve.proofs.cell_of.Goals.{Start}
 use Rattle.linsolve.proofs.cell_of.Goals as goal

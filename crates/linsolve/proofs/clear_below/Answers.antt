@@ -1,9 +1,5 @@
-use Prim.Native.Nat.{suc, ◌-◌, ◌<◌, ◌≤◌}
 use mathlib.Core.Path.{◌≡◌}
 use native.Mathlib.Omega.{arith}
-use borrow.Author.Rules.{rules}
-use Rattle.linsolve.specs.Solver.{system, clear_to}
-use Rattle.linsolve.specs.Promises.{Holds}
 use Rattle.linsolve.proofs.Steps.{clear_first, clear_more}
 use Rattle.linsolve.proofs.clear_below.Goals as goal
 

@@ -1,11 +1,7 @@
 -- `clear_below`: so far the rows up to r are cleared.
 use Prim.Native.Nat.{suc, ◌-◌, ◌<◌, ◌≤◌}
-use mathlib.Core.Path.{◌≡◌}
-use native.Mathlib.Omega.{arith}
-use borrow.Author.Rules.{rules}
 use Rattle.linsolve.specs.Solver.{system, clear_to}
 use Rattle.linsolve.specs.Promises.{Holds}
-use Rattle.linsolve.proofs.Steps.{clear_first, clear_more}
 use Rattle.linsolve.proofs.clear_below.Given as goal
 
 abbrev pub invariant-loop-r : goal.invariant-loop-r

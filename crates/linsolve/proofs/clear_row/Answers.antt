@@ -1,5 +1,4 @@
 -- `clear_row`: a factor of zero leaves the row, any other takes its multiple off.
-use borrow.Author.Rules.{rules}
 use Rattle.linsolve.proofs.Steps.{clear_yes, clear_no}
 use Rattle.linsolve.proofs.clear_row.Goals as goal
 

@@ -1,9 +1,4 @@
-use Prim.Native.Nat.{◌-◌, ◌≤◌}
-use mathlib.Core.Bool.{true}
 use native.Mathlib.Omega.{arith}
-use borrow.Author.Rules.{rules}
-use Rattle.linsolve.specs.Solver.{system, eliminate_to}
-use Rattle.linsolve.specs.Promises.{Remains}
 use Rattle.linsolve.proofs.Steps.{columns_first, columns_more, columns_stop, columns_all}
 use Rattle.linsolve.proofs.eliminate.Goals as goal
 

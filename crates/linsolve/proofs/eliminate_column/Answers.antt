@@ -1,5 +1,4 @@
 -- `eliminate_column`: it stops at a pivot too small, else the pivot is placed and the column cleared.
-use borrow.Author.Rules.{rules}
 use Rattle.linsolve.proofs.Steps.{column_stops, column_goes}
 use Rattle.linsolve.proofs.eliminate_column.Goals as goal
 

@@ -1,8 +1,5 @@
-use Prim.Native.Nat.{◌-◌, ◌≤◌}
 use mathlib.Core.Path.{◌≡◌}
 use native.Mathlib.Omega.{arith}
-use borrow.Author.Rules.{rules}
-use Rattle.linsolve.specs.Promises.{exchange}
 use Rattle.linsolve.proofs.Parts.{exchange_none, exchange_more}
 use Rattle.linsolve.proofs.exchange_parts.Goals as goal
 

@@ -1,10 +1,7 @@
 -- `exchange_parts`: so far j places of each part are exchanged.
 use Prim.Native.Nat.{◌-◌, ◌≤◌}
 use mathlib.Core.Path.{◌≡◌}
-use native.Mathlib.Omega.{arith}
-use borrow.Author.Rules.{rules}
 use Rattle.linsolve.specs.Promises.{exchange}
-use Rattle.linsolve.proofs.Parts.{exchange_none, exchange_more}
 use Rattle.linsolve.proofs.exchange_parts.Given as goal
 
 abbrev pub invariant-loop-j : goal.invariant-loop-j

@@ -1,8 +1,5 @@
-use Prim.Native.Nat.{suc, ◌-◌, ◌<◌, ◌≤◌}
 use mathlib.Core.Path.{◌≡◌}
 use native.Mathlib.Omega.{arith}
-use borrow.Author.Rules.{rules}
-use Rattle.linsolve.specs.Solver.{system, less_known}
 use Rattle.linsolve.proofs.Steps.{known_first, known_more}
 use Rattle.linsolve.proofs.less_known.Goals as goal
 

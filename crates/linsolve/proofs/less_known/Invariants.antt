@@ -1,10 +1,7 @@
 -- `less_known`: so far the unknowns up to j are taken off.
 use Prim.Native.Nat.{suc, ◌-◌, ◌<◌, ◌≤◌}
 use mathlib.Core.Path.{◌≡◌}
-use native.Mathlib.Omega.{arith}
-use borrow.Author.Rules.{rules}
 use Rattle.linsolve.specs.Solver.{system, less_known}
-use Rattle.linsolve.proofs.Steps.{known_first, known_more}
 use Rattle.linsolve.proofs.less_known.Given as goal
 
 abbrev pub invariant-loop-j : goal.invariant-loop-j

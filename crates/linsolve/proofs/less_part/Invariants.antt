@@ -1,12 +1,8 @@
 -- `less_part`: so far j places are less f times their counterparts.
 use Prim.Native.Nat.{◌-◌, ◌≤◌}
 use mathlib.Core.Path.{◌≡◌}
-use native.Mathlib.Omega.{arith}
-use borrow.Author.Rules.{rules}
 use Rattle.number.specs.Table.{fill_at}
-use Rattle.number.proofs.Table.{fill_at_none}
 use Rattle.linsolve.specs.Promises.{less_at}
-use Rattle.linsolve.proofs.Parts.{less_more}
 use Rattle.linsolve.proofs.less_part.Given as goal
 
 abbrev pub invariant-loop-j : goal.invariant-loop-j

@@ -1,7 +1,6 @@
 -- `less_row`: the two rows lie apart and within the table.
 use Prim.Native.Nat.{◌+◌, ◌*◌, ◌≤◌}
 use native.Mathlib.Omega.{arith}
-use borrow.Author.Rules.{rules}
 use Rattle.number.proofs.Table.{row_within, row_before}
 use Rattle.linsolve.proofs.Steps.{less_is}
 use Rattle.linsolve.proofs.less_row.Goals.{Start}

@@ -1,5 +1,4 @@
 -- `magnitude_at`: the magnitude of a cell.
-use borrow.Author.Rules.{rules}
 use Rattle.linsolve.proofs.magnitude_at.Goals as goal
 
 pub returns : goal.returns

@@ -1,8 +1,5 @@
-use Prim.Native.Nat.{◌-◌, ◌<◌, ◌≤◌}
 use mathlib.Core.Path.{◌≡◌}
 use native.Mathlib.Omega.{arith}
-use borrow.Author.Rules.{rules}
-use Rattle.linsolve.specs.Promises.{Best}
 use Rattle.linsolve.proofs.Steps.{best_first, best_moves, best_stays}
 use Rattle.linsolve.proofs.pivot_of.Goals.{then-best-m, else-best-m}
 use Rattle.linsolve.proofs.pivot_of.Goals as goal

@@ -1,11 +1,6 @@
 -- `pivot_of`: so far the first of the largest from the diagonal down.
 use Prim.Native.Nat.{◌-◌, ◌<◌, ◌≤◌}
-use mathlib.Core.Logic.{⊎_elim}
-use mathlib.Core.Path.{◌≡◌}
-use native.Mathlib.Omega.{arith}
-use borrow.Author.Rules.{rules}
 use Rattle.linsolve.specs.Promises.{Best}
-use Rattle.linsolve.proofs.Steps.{best_first, best_moves, best_stays}
 use Rattle.linsolve.proofs.pivot_of.Given as goal
 
 abbrev pub invariant-loop-r : goal.invariant-loop-r

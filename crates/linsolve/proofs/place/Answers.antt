@@ -1,5 +1,4 @@
 -- `place`: rows exchanged, or the pivot's row stands there already.
-use borrow.Author.Rules.{rules}
 use Rattle.linsolve.proofs.Steps.{placed_swap, placed_same}
 use Rattle.linsolve.proofs.place.Goals as goal
 

@@ -1,5 +1,4 @@
 -- `solve`: too large, singular, or solved.
-use borrow.Author.Rules.{rules}
 use Rattle.linsolve.proofs.Steps.{large_is, solved_is, singular_is}
 use Rattle.linsolve.proofs.solve.Goals as goal
 

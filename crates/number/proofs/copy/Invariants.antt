@@ -1,11 +1,8 @@
 -- `copy`: so far as many places are filled as were copied.
-use Prim.Native.Nat.{◌-◌, ◌≤◌}
-use mathlib.Core.Path.{◌≡◌, refl}
-use native.Mathlib.Omega.{arith}
-use borrow.Author.Rules.{rules}
-use lib.ListN.{length, length-set}
+use Prim.Native.Nat.{◌≤◌}
+use mathlib.Core.Path.{◌≡◌}
+use lib.ListN.{length}
 use Rattle.number.specs.Table.{◌!◌, fill_at}
-use Rattle.number.proofs.Table.{fill_at_none, fill_at_more}
 use Rattle.number.proofs.copy.Given as goal
 
 abbrev pub invariant-loop-i : goal.invariant-loop-i

@@ -1,10 +1,5 @@
 use mathlib.Core.Path.{◌≡◌, sym, ◌∙◌}
-use Prim.Native.Nat.{◌-◌, ◌≤◌}
 use native.Mathlib.Omega.{arith}
-use borrow.Author.Rules.{rules}
-use borrow.Author.Tests.{not-false, not-true}
-use Rattle.number.specs.Table.{◌!◌}
-use Rattle.number.specs.Tests.{holds, first_not}
 use Rattle.number.proofs.First.{first_none, first_more, first_found}
 use Rattle.number.proofs.first_failing.Goals as goal
 

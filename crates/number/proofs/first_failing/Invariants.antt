@@ -1,12 +1,8 @@
 -- `first_failing`: so far none has failed.
-use mathlib.Core.Path.{◌≡◌, sym, ◌∙◌}
-use Prim.Native.Nat.{◌-◌, ◌≤◌}
-use native.Mathlib.Omega.{arith}
-use borrow.Author.Rules.{rules}
-use borrow.Author.Tests.{not-false, not-true}
+use mathlib.Core.Path.{◌≡◌}
+use Prim.Native.Nat.{◌≤◌}
 use Rattle.number.specs.Table.{◌!◌}
 use Rattle.number.specs.Tests.{holds, first_not}
-use Rattle.number.proofs.First.{first_none, first_more, first_found}
 use Rattle.number.proofs.first_failing.Given as goal
 
 abbrev pub invariant-loop-i : goal.invariant-loop-i

@@ -1,5 +1,4 @@
 -- `is_usable`: finite and above zero, as the definition has it.
-use borrow.Author.Rules.{rules}
 use Rattle.number.specs.Number.{usable}
 use Rattle.number.proofs.is_usable.Goals as goal
 

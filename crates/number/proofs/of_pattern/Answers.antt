@@ -1,7 +1,6 @@
 -- `of_pattern`: past infinity's pattern, less its sign, stand the NaNs.
 use mathlib.Core.Bool.{Bool, not}
 use mathlib.Core.Path.{sym, subst, ◌∙◌}
-use borrow.Author.Rules.{rules}
 use borrow.Author.Tests.{lt-ltb, le-ltb}
 use lib.Dec.{T}
 use lib.Ieee.{binary64, div, of_bits}

@@ -1,5 +1,4 @@
 -- `passes`: in each arm the test is the one that the arm names.
-use borrow.Author.Rules.{rules}
 use Rattle.number.specs.Tests.{holds}
 use Rattle.number.proofs.passes.Goals as goal
 

@@ -1,7 +1,6 @@
 -- `pattern`: a NaN has the one pattern, and what is none may be asked for its bits.
 use mathlib.Core.Bool.{Bool, not}
 use mathlib.Core.Path.{refl, sym, subst}
-use borrow.Author.Rules.{rules}
 use lib.Dec.{T}
 use lib.Ieee.{to_bits}
 use lib.Ieee.Compare.{differs_from_itself}

@@ -1,5 +1,4 @@
 -- `first_of`: the first check where it fails, else the second.
-use borrow.Author.Rules.{rules}
 use Rattle.refusal.proofs.first_of.Goals as goal
 
 pub returns-in-Failed : goal.returns-in-Failed

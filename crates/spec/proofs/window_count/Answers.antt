@@ -1,9 +1,8 @@
 use mathlib.Core.Path.{◌≡◌}
-use Prim.Native.Nat.{suc, ◌-◌, ◌^◌, ◌≤◌}
+use Prim.Native.Nat.{suc}
 use native.Mathlib.Nat.{pow-suc, mul-le-mul}
 use native.Mathlib.Numerals.{add-one}
 use native.Mathlib.Omega.{arith}
-use borrow.Author.Rules.{rules}
 use Rattle.spec.proofs.Count.{few, many, wide, fits, pow_one}
 use Rattle.spec.proofs.window_count.Goals as goal
 

@@ -1,11 +1,6 @@
 -- `window_count`: the loop holds a power of k up to 256, and stops at the first above.
 use mathlib.Core.Path.{◌≡◌}
 use Prim.Native.Nat.{suc, ◌-◌, ◌^◌, ◌≤◌}
-use native.Mathlib.Nat.{pow-suc, mul-le-mul}
-use native.Mathlib.Numerals.{add-one}
-use native.Mathlib.Omega.{arith}
-use borrow.Author.Rules.{rules}
-use Rattle.spec.proofs.Count.{few, many, wide, fits, pow_one}
 use Rattle.spec.proofs.window_count.Given as goal
 
 abbrev pub invariant-loop-i : goal.invariant-loop-i

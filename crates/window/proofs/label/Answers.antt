@@ -1,7 +1,5 @@
-use Prim.Native.Nat.{◌/◌, ◌-◌, ◌^◌, ◌≤◌}
 use mathlib.Core.Path.{◌≡◌}
 use native.Mathlib.Omega.{arith}
-use borrow.Author.Rules.{rules}
 use Rattle.window.proofs.Arithmetic.{divided_none, divided_more, k_positive, label_is}
 use Rattle.window.proofs.label.Goals as goal
 

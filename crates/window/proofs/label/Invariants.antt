@@ -1,9 +1,6 @@
 -- `label`: a divided l times by k, and the remainder.
 use Prim.Native.Nat.{◌/◌, ◌-◌, ◌^◌, ◌≤◌}
 use mathlib.Core.Path.{◌≡◌}
-use native.Mathlib.Omega.{arith}
-use borrow.Author.Rules.{rules}
-use Rattle.window.proofs.Arithmetic.{divided_none, divided_more, k_positive, label_is}
 use Rattle.window.proofs.label.Given as goal
 
 abbrev pub invariant-loop-i : goal.invariant-loop-i

@@ -1,6 +1,5 @@
 -- `next_label`: the next label, or 0 after the last.
 use native.Mathlib.Omega.{arith}
-use borrow.Author.Rules.{rules}
 use Rattle.window.proofs.Round.{label_next, label_round}
 use Rattle.window.proofs.next_label.Goals as goal
 

@@ -1,6 +1,5 @@
 -- `predecessor`: the newest label is cut off, x stands last.
 use native.Mathlib.Omega.{arith}
-use borrow.Author.Rules.{rules}
 use Rattle.window.proofs.Arithmetic.{predecessor_is, predecessor_small}
 use Rattle.window.proofs.predecessor.Goals as goal
 
