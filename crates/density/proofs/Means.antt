@@ -44,7 +44,7 @@ module _ (first : List Float) (k order : ℕ) (phis means y : List Float) (t : �
     unfolding lagged_at lags_to labels
     lag_more l c d {row} e h i =
         let some = one-le-pow (suc l) k pos in
-        let from : row ! (c % k ^ suc l) ≡ lagged_row l c = fill_at_lem _ _ d e (c % k ^ suc l) (mod-lt c some) ∙ lags_ext _ _ l (label_cut k pos (suc order) l c) in
+        let from : row ! (c % k ^ suc l) ≡ lagged_row l c = fill_at_lem _ _ d e (c % k ^ suc l) (mod-lt c some) ∙ lags_ext (labels k (suc order) (c % k ^ suc l)) (labels k (suc order) c) l (label_cut k pos (suc order) l c) in
         let oldest : c / k ^ suc l < k = (div-lt_iff_lt-mul some).1 i in
         let older : label (labels k (suc order) c) (suc l) ≡ c / k ^ suc l = label_labels k (suc order) c (suc l) (omega arith) ∙ mod-eq_of_lt oldest in
         rw (from, ← older)
@@ -90,7 +90,9 @@ module _ {q : MsarParams} {count order : ℕ} {means phis : List Float} (parts :
   mean_is w b (suc l) h =
       let coefficient : phis ! (l * count + label w 0) ≡ q.ar ! (block_of q.ar_blocks (label w 0) * order + l)
       = rw (← parts.phis_are, parts.count_is, parts.order_is) (phi_at q.ar q.ar_blocks count order l (label w 0) h b) in
-      rw (mean_is w b l (omega arith), parts.means_are, parts.order_is) (rw coefficient)
+      let own : phis ! (l * count + label w 0) ≡ q.ar ! (block_of q.ar_blocks (label w 0) * q.order + l) = rw parts.order_is coefficient in
+      let mean : means ! label w (suc l) ≡ q.means ! label w (suc l) = rw parts.means_are in
+      rw (mean_is w b l (omega arith), own, mean)
 
   pub means_are : (d : List Float) {row : List Float} → 0 < count
       → row ≡ fill_at 0 (λ a. lags_to (λ s. means ! s) count phis means y t.0 (labels count (suc order) a) order) (count ^ suc order) d
