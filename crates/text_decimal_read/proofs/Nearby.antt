@@ -3,13 +3,13 @@
 use mathlib.Core.Path.{◌≡◌, refl, sym, ap, ◌∙◌, subst}
 use mathlib.Core.Bool.{Bool, not, ◌||◌}
 use mathlib.Core.Logic.{inl, inr}
-use Prim.Native.Nat.{ℕ, zero, suc, ◌+◌, ◌-◌, ◌*◌, ◌/◌, ◌%◌, ◌^◌, ◌≤◌, ◌<◌}
+use Prim.Native.Nat.{ℕ, suc, ◌+◌, ◌-◌, ◌*◌, ◌/◌, ◌%◌, ◌^◌, ◌≤◌, ◌<◌}
 use native.Mathlib.Nat.{le_trans, le_of_eq, lt_of_lt_of_le, mul-pos, div-div-eq-div-mul, div-add-mod', mod-lt, div-eq_of_lt, div-lt_iff_lt-mul, le-div_iff_mul-le}
 use native.Mathlib.Omega.{arith}
 use lib.Dec.{eqb}
 use lib.Pow.{pow-add, pow_pos, pow_mono, shr_lt}
 use lib.Ieee.{binary64, size, units, round}
-use lib.Ieee.Digits.{size_le, size-lt, size_reaches}
+use lib.Ieee.Digits.{size-le, size-lt, size_reaches}
 use lib.Ieee.Fits.{round_is}
 use lib.Ieee.Nearest.{closest, closest_same, div_same}
 use Rattle.rounding.proofs.Choose.{le_or_lt}
@@ -115,7 +115,7 @@ module _ (num den v k w : ℕ) (rest more : Bool) (D : 0 < den) (c : CutBy (num 
 
 -- what `rounded` asks of the limbs
 pub cut_fits : (v k : ℕ) → v < 2 ^ 2200 → k ≡ size v - 67 → (k + 13 < 2240) × (v / 2 ^ (k + 13) < 2 ^ 64)
-cut_fits v k h e = (small (size v) k (size_le v 2200 h) e, lt_of_lt_of_le (few v k (v / 2 ^ (k + 13)) e refl) (pow_mono {i = 54} {j = 64} (omega arith)))
+cut_fits v k h e = (small (size v) k (size-le v 2200 h) e, lt_of_lt_of_le (few v k (v / 2 ^ (k + 13)) e refl) (pow_mono {i = 54} {j = 64} (omega arith)))
   where
     small : (z k : ℕ) → z ≤ 2200 → k ≡ z - 67 → k + 13 < 2240
     small z k h e = omega arith

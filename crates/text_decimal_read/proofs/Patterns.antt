@@ -8,7 +8,7 @@ use native.Mathlib.Omega.{arith}
 use lib.Dec.{T, ltb, lit<, lit≤, lt→ltb, ltb→lt}
 use lib.Pow.{pow-add, pow_mono, shl_lt, shl-shr}
 use lib.Ieee.{Float, nan, inf, fin, binary64, up, down, size, odd, units, of_bits, to_bits}
-use lib.Ieee.Digits.{size_le, size-lt}
+use lib.Ieee.Digits.{size-le, size-lt}
 use lib.Ieee.Fits.{odd-fits, down_pos}
 use lib.Ieee.Bits.{of_bits-to_bits, is_true}
 use lib.Ieee.Exact.{HasValue, odd_sign}
@@ -16,7 +16,7 @@ use Rattle.number.specs.Number.{float}
 use Rattle.text_decimal_read.specs.Normal.{Normal, sign_part}
 
 pub size_is : (n z : ℕ) → 2 ^ z ≤ n → n < 2 ^ suc z → size n ≡ suc z
-size_is n z a b = le_antisymm (size_le n (suc z) b) (lt_of_not-le (λ (h : size n ≤ z). not-le_of_lt (size-lt n) (le_trans (pow_mono h) a)))
+size_is n z a b = le_antisymm (size-le n (suc z) b) (lt_of_not-le (λ (h : size n ≤ z). not-le_of_lt (size-lt n) (le_trans (pow_mono h) a)))
 
 -- the pattern of n units, without the sign
 abbrev pub pattern_of : ℕ → ℕ
@@ -38,7 +38,7 @@ to_bits_lem (fin t m e) s n v =
 
 plain : (q : ℕ) → q < 2 ^ 53 → pattern_of (q * 2 ^ 0) ≡ 0 * 2 ^ 52 + q
 plain q h =
-    let z : size (q * 2 ^ 0) - 53 ≡ 0 = none (size (q * 2 ^ 0)) (size_le (q * 2 ^ 0) 53 (subst (λ (n : ℕ). n < 2 ^ 53) (one q) h)) in
+    let z : size (q * 2 ^ 0) - 53 ≡ 0 = none (size (q * 2 ^ 0)) (size-le (q * 2 ^ 0) 53 (subst (λ (n : ℕ). n < 2 ^ 53) (one q) h)) in
     ap (λ (j : ℕ). j * 2 ^ 52 + q * 2 ^ 0 / 2 ^ j) z ∙ ap (λ (n : ℕ). 0 * 2 ^ 52 + n) (div-one (q * 2 ^ 0) ∙ sym (one q))
   where
     none : (z : ℕ) → z ≤ 53 → z - 53 ≡ 0

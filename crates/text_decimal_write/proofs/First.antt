@@ -8,7 +8,7 @@ use native.Mathlib.Omega.{arith}
 use lib.Dec.{T, leb, ltb, le→leb, leb→le, ltb→lt, lit≤}
 use lib.Pow.{pow_pos}
 use lib.Ieee.{size}
-use lib.Ieee.Digits.{size-lt, size_le, size_reaches}
+use lib.Ieee.Digits.{size-lt, size-le, size_reaches}
 use lib.Ieee.Fits.{and_l, and_r}
 use lib.Ieee.Bits.{is_true}
 use Rattle.rounding.proofs.Choose.{le_or_lt}
@@ -169,7 +169,7 @@ pub guessed : (u : ℕ) → 0 < u → u < 2 ^ 2098 → Guessed u (guess_of (size
 guessed u p h =
     let z : ℕ = size u in
     let Z : 0 < z = some u p in
-    let m : z ≤ 2098 = size_le u 2098 h in
+    let m : z ≤ 2098 = size-le u 2098 h in
     let g : T (good (z - 1)) = all_good 2098 (z - 1) tried (less z Z m) in
     let e : suc (z - 1) ≡ z = back_one z Z in
     let lo : 2 ^ (z - 1) ≤ u = size_reaches u (z - 1) (last z Z) in

@@ -8,7 +8,7 @@ use lib.Dec.{eqb, lit<}
 use lib.Pow.{pow_pos, pow_mono, shl_lt}
 use lib.Ieee.Nearest.{closest, closest_same}
 use Rattle.text_decimal_write.specs.declared.Decimal.{Decimal}
-use Rattle.text_decimal_write.specs.Decimals.{over, under, tens, settled, decimal_of}
+use Rattle.text_decimal_write.specs.Decimals.{over, under, settled, decimal_of}
 use Rattle.text_limbs.specs.Remains.{CutBy, halved_of}
 use Rattle.text_limbs.proofs.Tens.{ten_pos, cut_none, cut_more}
 use Rattle.text_limbs.proofs.Halves.{halved_closest}

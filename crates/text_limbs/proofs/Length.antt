@@ -1,8 +1,7 @@
 -- How many binary digits limbs have, and what is left without the lowest of them. Assumes nothing.
 use mathlib.Core.Path.{◌≡◌, refl, sym, ap, ◌∙◌, subst}
-use mathlib.Core.Bool.{not}
 use mathlib.Core.List.{List}
-use Prim.Native.Nat.{ℕ, zero, suc, ◌+◌, ◌-◌, ◌*◌, ◌^◌, ◌≤◌, ◌<◌}
+use Prim.Native.Nat.{ℕ, suc, ◌+◌, ◌-◌, ◌*◌, ◌^◌, ◌≤◌, ◌<◌}
 use native.Mathlib.Nat.{le_antisymm, le_trans, le_of_lt, not-le_of_lt, lt_of_not-le, mul-le-mul_left}
 use native.Mathlib.Omega.{arith}
 use lib.Pow.{pow-add, pow_mono}

@@ -1,6 +1,5 @@
 -- `text_decimal_grammar::after_point` meets its contract: a digit.
 use mathlib.Core.Path.{refl, sym}
-use borrow.Author.Rules.{rules}
 use borrow.Author.Tests.{le-ltb, lt-ltb}
 use Rattle.text_decimal_grammar.specs.Grammar.{after_point}
 use Rattle.text_decimal_grammar.proofs.after_point.Goals as goal

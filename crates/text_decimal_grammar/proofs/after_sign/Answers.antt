@@ -1,6 +1,5 @@
 -- `text_decimal_grammar::after_sign` meets its contract: a digit, a point, `i` or `n`.
 use mathlib.Core.Path.{refl, sym, ap}
-use borrow.Author.Rules.{rules}
 use borrow.Author.Tests.{eq-eqb, le-ltb, lt-ltb, ne_eqb}
 use Rattle.text_decimal_grammar.specs.declared.Next.TheVariants.{Go}
 use Rattle.text_decimal_grammar.specs.Grammar.{after_sign}

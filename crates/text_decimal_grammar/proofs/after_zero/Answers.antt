@@ -1,6 +1,5 @@
 -- `text_decimal_grammar::after_zero` meets its contract: `x`, or what follows a digit.
 use mathlib.Core.Path.{ap}
-use borrow.Author.Rules.{rules}
 use borrow.Author.Tests.{eq-eqb, ne_eqb}
 use Rattle.text_decimal_grammar.specs.declared.Next.TheVariants.{Go}
 use Rattle.text_decimal_grammar.specs.Grammar.{after_zero}

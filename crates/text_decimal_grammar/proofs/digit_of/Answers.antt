@@ -1,6 +1,5 @@
 -- `text_decimal_grammar::digit_of` meets its contract, by the tests on its way.
 use mathlib.Core.Path.{refl}
-use borrow.Author.Rules.{rules}
 use borrow.Author.Tests.{le-ltb, lt-ltb}
 use Rattle.text_decimal_grammar.specs.Grammar.{digit_of}
 use Rattle.text_decimal_grammar.proofs.digit_of.Goals as goal

@@ -1,6 +1,5 @@
 -- `text_decimal_grammar::hex_of` meets its contract, by the tests on its way.
 use mathlib.Core.Path.{refl, sym}
-use borrow.Author.Rules.{rules}
 use borrow.Author.Tests.{le-leb, le-ltb, lt-leb, lt-ltb}
 use Rattle.text_decimal_grammar.specs.Grammar.{hex_of}
 use Rattle.text_decimal_grammar.proofs.hex_of.Goals as goal

@@ -1,6 +1,5 @@
 -- `text_decimal_grammar::in_exponent` meets its contract: a digit.
 use mathlib.Core.Path.{refl, sym}
-use borrow.Author.Rules.{rules}
 use borrow.Author.Tests.{le-ltb, lt-ltb}
 use Rattle.text_decimal_grammar.specs.Grammar.{in_exponent}
 use Rattle.text_decimal_grammar.proofs.in_exponent.Goals as goal

@@ -1,6 +1,5 @@
 -- `text_decimal_grammar::in_fraction` meets its contract: a digit, or the exponent's mark.
 use mathlib.Core.Path.{sym}
-use borrow.Author.Rules.{rules}
 use borrow.Author.Tests.{le-ltb, lt-ltb}
 use Rattle.text_decimal_grammar.specs.Grammar.{in_fraction}
 use Rattle.text_decimal_grammar.proofs.in_fraction.Goals as goal

@@ -1,6 +1,5 @@
 -- `text_decimal_grammar::in_whole` meets its contract: a digit, a point, or the exponent's mark.
 use mathlib.Core.Path.{sym, ap}
-use borrow.Author.Rules.{rules}
 use borrow.Author.Tests.{eq-eqb, le-ltb, lt-ltb, ne_eqb}
 use Rattle.text_decimal_grammar.specs.declared.Next.TheVariants.{Go}
 use Rattle.text_decimal_grammar.specs.Grammar.{in_whole}

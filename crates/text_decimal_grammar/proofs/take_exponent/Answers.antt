@@ -1,6 +1,5 @@
 -- `text_decimal_grammar::take_exponent` meets its contract: an exponent is at most 400.
 use mathlib.Core.Path.{refl}
-use borrow.Author.Rules.{rules}
 use borrow.Author.Tests.{le-ltb, lt-ltb}
 use Rattle.text_decimal_grammar.specs.Grammar.{exponent_digit}
 use Rattle.text_decimal_grammar.proofs.take_exponent.Goals as goal

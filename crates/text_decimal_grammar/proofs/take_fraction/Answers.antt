@@ -1,6 +1,5 @@
 -- `text_decimal_grammar::take_fraction` meets its contract: 19 digits fit, and zeros behind them say nothing.
 use mathlib.Core.Path.{refl, ap}
-use borrow.Author.Rules.{rules}
 use borrow.Author.Tests.{eq-eqb, le-ltb, lt-ltb, ne_eqb}
 use Rattle.text_decimal_grammar.specs.declared.Next.TheVariants.{Go}
 use Rattle.text_decimal_grammar.specs.Grammar.{fraction_digit}

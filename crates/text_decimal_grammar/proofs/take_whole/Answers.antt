@@ -1,6 +1,5 @@
 -- `text_decimal_grammar::take_whole` meets its contract: 19 digits fit, and zeros behind them are counted.
 use mathlib.Core.Path.{refl}
-use borrow.Author.Rules.{rules}
 use borrow.Author.Tests.{eq-eqb, le-ltb, lt-ltb, ne_eqb}
 use Rattle.text_decimal_grammar.specs.Grammar.{whole_digit}
 use Rattle.text_decimal_grammar.proofs.take_whole.Goals as goal

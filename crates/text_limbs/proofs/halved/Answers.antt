@@ -1,6 +1,5 @@
 -- `text_limbs::halved` meets its contract, by the tests on its way.
 use mathlib.Core.Path.{refl}
-use borrow.Author.Rules.{rules}
 use borrow.Author.Tests.{eq-eqb, ne_eqb}
 use Rattle.text_limbs.specs.Remains.{halved_of}
 use Rattle.text_limbs.proofs.halved.Goals as goal

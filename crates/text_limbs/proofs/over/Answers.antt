@@ -1,7 +1,7 @@
 use Prim.Native.Nat.{◌-◌}
 use native.Mathlib.Omega.{arith}
 use borrow.Author.Rules.{rules}
-use Rattle.text_limbs.proofs.Divide.{Divided, first, next, last, sum_less}
+use Rattle.text_limbs.proofs.Divide.{first, next, last, sum_less}
 use Rattle.text_limbs.proofs.over.Goals as goal
 
 pub loop-i-init : goal.loop-i-init

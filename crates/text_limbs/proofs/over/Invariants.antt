@@ -1,8 +1,5 @@
 -- `text_limbs::over` meets its contract: long division from the highest limb down. The measure is the count of limbs to come.
-use Prim.Native.Nat.{◌-◌}
-use native.Mathlib.Omega.{arith}
-use borrow.Author.Rules.{rules}
-use Rattle.text_limbs.proofs.Divide.{Divided, first, next, last, sum_less}
+use Rattle.text_limbs.proofs.Divide.{Divided}
 use Rattle.text_limbs.proofs.over.Given as goal
 
 abbrev pub invariant-loop-i : goal.invariant-loop-i

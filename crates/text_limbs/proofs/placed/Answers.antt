@@ -1,7 +1,6 @@
 -- `text_limbs::placed` meets its contract: the digits stand in three limbs, and nothing wraps.
 use Prim.Native.Nat.{◌/◌, ◌%◌}
 use native.Mathlib.Omega.{arith}
-use borrow.Author.Rules.{rules}
 use Rattle.text_limbs.proofs.Place.{Moved, moved, placed_limbs, placed_value}
 use Rattle.text_limbs.proofs.placed.Goals.{After-two_to-p}
 use Rattle.text_limbs.proofs.placed.Goals as goal

@@ -1,13 +1,8 @@
 -- `text_limbs::some` meets its contract: every limb passed is zero. The measure is the count of limbs to come.
-use Prim.Native.Nat.{ℕ, ◌-◌, ◌≤◌}
-use mathlib.Core.Path.{◌≡◌, sym, subst}
-use native.Mathlib.Omega.{arith}
-use borrow.Author.Rules.{rules}
-use borrow.Author.Tests.{eq-eqb}
-use native.Mathlib.Numerals.{add-one}
+use Prim.Native.Nat.{◌-◌, ◌≤◌}
+use mathlib.Core.Path.{◌≡◌}
 use lib.ListN.{take}
 use Rattle.text_limbs.specs.Limbs.{value}
-use Rattle.text_limbs.proofs.Top.{none_below, more_below, some_below}
 use Rattle.text_limbs.proofs.some.Given as goal
 
 abbrev pub invariant-loop-i : goal.invariant-loop-i

@@ -1,7 +1,6 @@
-use Prim.Native.Nat.{◌-◌}
 use borrow.Author.Rules.{rules}
 use native.Mathlib.Numerals.{add-one}
-use Rattle.text_limbs.proofs.Multiply.{Multiplied, first, next, last, sum_fits}
+use Rattle.text_limbs.proofs.Multiply.{first, next, last, sum_fits}
 use Rattle.text_limbs.proofs.times.Goals as goal
 
 pub loop-i-init : goal.loop-i-init

@@ -1,8 +1,6 @@
 -- `text_limbs::times` meets its contract: each limb times m, and what the ones below carry. The measure is the count of limbs to come.
 use Prim.Native.Nat.{◌-◌}
-use borrow.Author.Rules.{rules}
-use native.Mathlib.Numerals.{add-one}
-use Rattle.text_limbs.proofs.Multiply.{Multiplied, first, next, last, sum_fits}
+use Rattle.text_limbs.proofs.Multiply.{Multiplied}
 use Rattle.text_limbs.proofs.times.Given as goal
 
 abbrev pub invariant-loop-i : goal.invariant-loop-i

@@ -1,7 +1,6 @@
-use Prim.Native.Nat.{ℕ, ◌≤◌}
+use Prim.Native.Nat.{ℕ}
 use mathlib.Core.Path.{◌≡◌, subst}
 use native.Mathlib.Omega.{arith}
-use borrow.Author.Rules.{rules}
 use lib.ListN.{drop}
 use Rattle.text_limbs.specs.Limbs.{value}
 use Rattle.text_limbs.proofs.Top.{none_above, more_above}

@@ -1,11 +1,8 @@
 -- `text_limbs::used` meets its contract: every limb above is zero. The measure is the count of limbs to come.
-use Prim.Native.Nat.{ℕ, ◌≤◌}
-use mathlib.Core.Path.{◌≡◌, subst}
-use native.Mathlib.Omega.{arith}
-use borrow.Author.Rules.{rules}
+use Prim.Native.Nat.{◌≤◌}
+use mathlib.Core.Path.{◌≡◌}
 use lib.ListN.{drop}
 use Rattle.text_limbs.specs.Limbs.{value}
-use Rattle.text_limbs.proofs.Top.{none_above, more_above}
 use Rattle.text_limbs.proofs.used.Given as goal
 
 abbrev pub invariant-loop-i : goal.invariant-loop-i

@@ -1,6 +1,5 @@
 -- `text_words::before_blanks` meets its contract. The measure is how far the end lies from the start.
 use Prim.Native.Nat.{◌≤◌, ◌-◌}
-use borrow.Author.Rules.{rules}
 use Rattle.text_words.proofs.before_blanks.Given as goal
 
 abbrev pub invariant-loop-e : goal.invariant-loop-e

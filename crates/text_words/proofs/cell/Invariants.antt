@@ -1,7 +1,6 @@
 -- `text_words::cell` meets its contract. The measure is the count of cells to pass.
 use Prim.Native.Nat.{◌≤◌, ◌-◌}
 use lib.ListN.{length}
-use borrow.Author.Rules.{rules}
 use Rattle.text_words.proofs.cell.Given as goal
 
 abbrev pub invariant-loop-i : goal.invariant-loop-i

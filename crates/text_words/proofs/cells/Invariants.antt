@@ -1,7 +1,6 @@
 -- `text_words::cells` is safe and ends. The measure is what is left of the line.
 use Prim.Native.Nat.{suc, ◌≤◌, ◌-◌}
 use lib.ListN.{length}
-use borrow.Author.Rules.{rules}
 use Rattle.text_words.proofs.cells.Given as goal
 
 abbrev pub invariant-loop-start : goal.invariant-loop-start

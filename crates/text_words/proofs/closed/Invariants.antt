@@ -1,7 +1,6 @@
 -- `text_words::closed` is safe and ends. The measure is what is left of the line.
 use Prim.Native.Nat.{◌≤◌, ◌-◌}
 use lib.ListN.{length}
-use borrow.Author.Rules.{rules}
 use Rattle.text_words.proofs.closed.Given as goal
 
 abbrev pub invariant-loop-i : goal.invariant-loop-i

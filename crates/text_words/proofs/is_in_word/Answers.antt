@@ -1,7 +1,6 @@
 -- `text_words::is_in_word` meets its contract, by what is a blank.
 use mathlib.Core.Path.{ap}
 use mathlib.Core.Bool.{Bool, not, ◌&&◌}
-use borrow.Author.Rules.{rules}
 use lib.Dec.{eqb}
 use Rattle.text_words.proofs.is_in_word.Goals as goal
 

@@ -1,9 +1,7 @@
 -- `text_words::put` meets its contract. The measure is the count of bytes to come.
 use Prim.Native.Nat.{◌≤◌, ◌-◌}
-use mathlib.Core.Path.{◌≡◌, sym}
+use mathlib.Core.Path.{◌≡◌}
 use lib.ListN.{length}
-use lib.Seq.{length-take-le}
-use borrow.Author.Rules.{rules}
 use Rattle.text_words.proofs.put.Given as goal
 
 abbrev pub invariant-loop-i : goal.invariant-loop-i

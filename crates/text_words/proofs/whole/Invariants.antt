@@ -1,7 +1,6 @@
 -- `text_words::whole` is safe and ends: a number of nine digits fits. The measure is the count of digits to come.
 use Prim.Native.Nat.{◌≤◌, ◌-◌}
 use lib.ListN.{length}
-use borrow.Author.Rules.{rules}
 use Rattle.text_words.proofs.whole.Given as goal
 
 abbrev pub invariant-loop-i : goal.invariant-loop-i

@@ -1,11 +1,8 @@
 -- `text_words::word_end` meets its contract: every place passed is in the word. The measure is what is left of the line.
 use Prim.Native.Nat.{◌-◌}
-use mathlib.Core.Path.{refl, sym, ◌∙◌}
-use borrow.Author.Tests.{not-true, not-false}
-use borrow.Author.Rules.{rules}
 use lib.ListN.{length}
 use Rattle.text_words.specs.Words.{in_word}
-use Rattle.text_words.proofs.Past.{Passed, found, one_on, ended}
+use Rattle.text_words.proofs.Past.{Passed}
 use Rattle.text_words.proofs.word_end.Given as goal
 
 abbrev pub invariant-loop-i : goal.invariant-loop-i

@@ -1,6 +1,5 @@
 use native.Mathlib.Omega.{arith}
-use borrow.Author.Rules.{rules}
-use Rattle.text_limbs.proofs.Tens.{Lowered, lowered_first, lowered_next, lowered_last, small_power}
+use Rattle.text_limbs.proofs.Tens.{lowered_first, lowered_next, lowered_last, small_power}
 use Rattle.text_limbs.proofs.ten.divide.Goals as goal
 
 pub loop-left-init : goal.loop-left-init

@@ -1,7 +1,5 @@
 -- `ten::divide` meets its contract: each step takes nine from the exponent. The measure is what is left of it.
-use native.Mathlib.Omega.{arith}
-use borrow.Author.Rules.{rules}
-use Rattle.text_limbs.proofs.Tens.{Lowered, lowered_first, lowered_next, lowered_last, small_power}
+use Rattle.text_limbs.proofs.Tens.{Lowered}
 use Rattle.text_limbs.proofs.ten.divide.Given as goal
 
 abbrev pub invariant-loop-left : goal.invariant-loop-left

@@ -1,9 +1,8 @@
 use Prim.Native.Nat.{ℕ, ◌+◌, ◌*◌, ◌^◌}
 use mathlib.Core.Path.{◌≡◌, subst}
 use native.Mathlib.Omega.{arith}
-use borrow.Author.Rules.{rules}
 use Rattle.text_limbs.specs.Limbs.{value}
-use Rattle.text_limbs.proofs.Tens.{Raised, raised_first, raised_next, raised_last, small_power}
+use Rattle.text_limbs.proofs.Tens.{raised_first, raised_next, raised_last, small_power}
 use Rattle.text_limbs.proofs.ten.multiply.Goals as goal
 
 pub loop-left-init : goal.loop-left-init
@@ -26,6 +25,6 @@ times-requires-2 c = (
 
 pub returns : goal.returns
 returns c = (
-  raised_last _ _ _ _ _ _ c.loop-left.invariant (subst (λ (p : ℕ). value c.times-2.new.0 + 2 ^ 2304 * c.times-2.result ≡ value c.loop-left.l * p) c.power.ensures c.times-2.ensures.0),
+  raised_last _ _ _ _ _ _ c.loop-left.invariant (subst (λ (p : ℕ). value c.times-2.new.l + 2 ^ 2304 * c.times-2.result ≡ value c.loop-left.l * p) c.power.ensures c.times-2.ensures.0),
   c.times-2.ensures.1,
 )

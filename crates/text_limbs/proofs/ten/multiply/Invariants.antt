@@ -1,10 +1,5 @@
 -- `ten::multiply` meets its contract: each step takes nine from the exponent. The measure is what is left of it.
-use Prim.Native.Nat.{ℕ, ◌+◌, ◌*◌, ◌^◌}
-use mathlib.Core.Path.{◌≡◌, subst}
-use native.Mathlib.Omega.{arith}
-use borrow.Author.Rules.{rules}
-use Rattle.text_limbs.specs.Limbs.{value}
-use Rattle.text_limbs.proofs.Tens.{Raised, raised_first, raised_next, raised_last, small_power}
+use Rattle.text_limbs.proofs.Tens.{Raised}
 use Rattle.text_limbs.proofs.ten.multiply.Given as goal
 
 abbrev pub invariant-loop-left : goal.invariant-loop-left

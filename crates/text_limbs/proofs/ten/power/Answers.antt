@@ -1,5 +1,4 @@
 -- `ten::power` meets its contract: the table holds the powers.
-use borrow.Author.Rules.{rules}
 use Rattle.text_limbs.proofs.Tens.{powers}
 use Rattle.text_limbs.proofs.ten.power.Goals as goal
 
