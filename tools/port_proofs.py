@@ -145,6 +145,18 @@ class Names:
                 names = clauses_of(crate).get(rest.split("::")[-1], ([], []))[1]
             word = rf"(?<![\w.-]){re.escape(m[1])}((?:\.\d+)+)"
             text = text[: m.end()] + re.sub(word, lambda x: m[1] + named(x[1], names), text[m.end():])
+        # what a call left in the memory that it was lent
+        def left(m):
+            callee = self.callee.get(norm(m[1])) or self.callee.get(norm(m[1]).removesuffix("_lem"))
+            if not callee:
+                return m[0]
+            crate, _, rest = callee.partition("::")
+            clauses_of(crate)
+            params = PARAMS[crate].get(rest.split("::")[-1], [])
+            n = m[2].count("1")
+            return f".{m[1]}.new.{params[n]}" if n < len(params) else m[0]
+
+        text = re.sub(r"\.([A-Za-z_][\w-]*)\.new((?:\.1)*)\.0", left, text)
         text = re.sub(r"\.([A-Za-z_][\w-]*)\.ensures((?:\.\d+)*)", ensured, text)
         text = re.sub(r"\.requires((?:\.\d+)+)", lambda m: ".requires" + named(m[1], self.own[0]), text)
         text = re.sub(r"(?<=[\w)])\.([A-Za-z_][\w-]*)", one, text)
