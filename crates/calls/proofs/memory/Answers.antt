@@ -1,0 +1,10 @@
+-- `memory` meets its contract: work memory, then the table.
+use native.Mathlib.Omega.{arith}
+use borrow.Author.Rules.{rules}
+use Rattle.calls.proofs.memory.Goals as goal
+
+pub overflow_mul-b : goal.overflow_mul-b
+overflow_mul-b c = omega (arith, c.requires)
+
+pub returns : goal.returns
+returns c = rw (← c.memory-at_work.ensures, ← c.memory-at_table.ensures) c.first_of.ensures
