@@ -1,5 +1,6 @@
 // The library's functions under their C names; include/msar.h says the same in C. Each makes the library's records of
-// the arrays that C hands in, calls one function, and spells its answer, so that nothing is decided here.
+// the arrays that C hands in, calls one function, and spells its answer, so that nothing is decided here. What C links,
+// c_interface_c, exports each of them with the same clauses.
 #![tactic(auto)]
 
 ghost use Rattle.std.specs.Prelude.{◌≡◌, []};
@@ -24,8 +25,7 @@ use spec::MsarSpec;
 // ---- calls on a series
 
 // The log-likelihood of a series.
-#[unsafe(no_mangle)]
-pub extern "C" fn msar_loglike(
+pub fn msar_loglike(
     k: usize,
     order: usize,
     switching_ar: bool,
@@ -38,7 +38,7 @@ pub extern "C" fn msar_loglike(
     whole: &mut [usize; 4],
     real: &mut [f64; 2],
 )
-    ensures { record { whole = whole.exit.now; real = real.new; work = work.new; filtered = []; smoothed = [] } ≡ left (loglike_call (spec_of k order switching_ar switching_variance) series.now (params_of counts.now numbers.now) rule work.old) }
+    ensures { record { whole = whole.new; real = real.new; work = work.new; filtered = []; smoothed = [] } ≡ left (loglike_call (spec_of k order switching_ar switching_variance) series.now (params_of counts.now numbers.now) rule work.old) }
 {
     let s = MsarSpec {
         k_regimes: k,
@@ -53,8 +53,7 @@ pub extern "C" fn msar_loglike(
 }
 
 // The log-likelihood, and the probabilities of the labels given the readings so far.
-#[unsafe(no_mangle)]
-pub extern "C" fn msar_filter(
+pub fn msar_filter(
     k: usize,
     order: usize,
     switching_ar: bool,
@@ -68,7 +67,7 @@ pub extern "C" fn msar_filter(
     whole: &mut [usize; 4],
     real: &mut [f64; 2],
 )
-    ensures { record { whole = whole.exit.now; real = real.new; work = work.new; filtered = filtered.new; smoothed = [] } ≡ left (filter_call (spec_of k order switching_ar switching_variance) series.now (params_of counts.now numbers.now) rule work.old filtered.old) }
+    ensures { record { whole = whole.new; real = real.new; work = work.new; filtered = filtered.new; smoothed = [] } ≡ left (filter_call (spec_of k order switching_ar switching_variance) series.now (params_of counts.now numbers.now) rule work.old filtered.old) }
 {
     let s = MsarSpec {
         k_regimes: k,
@@ -83,8 +82,7 @@ pub extern "C" fn msar_filter(
 }
 
 // The same, and the probabilities of the labels given all readings.
-#[unsafe(no_mangle)]
-pub extern "C" fn msar_smooth(
+pub fn msar_smooth(
     k: usize,
     order: usize,
     switching_ar: bool,
@@ -99,7 +97,7 @@ pub extern "C" fn msar_smooth(
     whole: &mut [usize; 4],
     real: &mut [f64; 2],
 )
-    ensures { record { whole = whole.exit.now; real = real.new; work = work.new; filtered = filtered.new; smoothed = smoothed.new } ≡ left (smooth_call (spec_of k order switching_ar switching_variance) series.now (params_of counts.now numbers.now) rule work.old filtered.old smoothed.old) }
+    ensures { record { whole = whole.new; real = real.new; work = work.new; filtered = filtered.new; smoothed = smoothed.new } ≡ left (smooth_call (spec_of k order switching_ar switching_variance) series.now (params_of counts.now numbers.now) rule work.old filtered.old smoothed.old) }
 {
     let s = MsarSpec {
         k_regimes: k,
@@ -114,8 +112,7 @@ pub extern "C" fn msar_smooth(
 }
 
 // The parameters that EM reaches, and the probabilities of the labels given all readings under them.
-#[unsafe(no_mangle)]
-pub extern "C" fn msar_fit(
+pub fn msar_fit(
     k: usize,
     order: usize,
     switching_ar: bool,
@@ -131,7 +128,7 @@ pub extern "C" fn msar_fit(
     whole: &mut [usize; 4],
     real: &mut [f64; 2],
 )
-    ensures { record { whole = whole.exit.now; real = real.new; work = work.new; smoothed = smoothed.new; fitted = fitted.new } ≡ fit_left (fit_call (spec_of k order switching_ar switching_variance) series.now (params_of counts.now numbers.now) max_iter tol work.old smoothed.old) fitted.old }
+    ensures { record { whole = whole.new; real = real.new; work = work.new; smoothed = smoothed.new; fitted = fitted.new } ≡ fit_left (fit_call (spec_of k order switching_ar switching_variance) series.now (params_of counts.now numbers.now) max_iter tol work.old smoothed.old) fitted.old }
 {
     let s = MsarSpec {
         k_regimes: k,
@@ -156,9 +153,8 @@ pub extern "C" fn msar_fit(
 // ---- calls on a spec or on parameters alone
 
 // The number of windows, as the place.
-#[unsafe(no_mangle)]
-pub extern "C" fn msar_windows(k: usize, order: usize, whole: &mut [usize; 4], real: &mut [f64; 2])
-    ensures { record { whole = whole.exit.now; real = real.new } ≡ windows_spelled (window_count k order) }
+pub fn msar_windows(k: usize, order: usize, whole: &mut [usize; 4], real: &mut [f64; 2])
+    ensures { record { whole = whole.new; real = real.new } ≡ windows_spelled (window_count k order) }
 {
     let s = MsarSpec {
         k_regimes: k,
@@ -170,22 +166,20 @@ pub extern "C" fn msar_windows(k: usize, order: usize, whole: &mut [usize; 4], r
 }
 
 // The checks of the parameters.
-#[unsafe(no_mangle)]
-pub extern "C" fn msar_check(
+pub fn msar_check(
     counts: &[usize; 6],
     numbers: &[f64; 400],
     whole: &mut [usize; 4],
     real: &mut [f64; 2],
 )
-    ensures { record { whole = whole.exit.now; real = real.new } ≡ spelled (parameter_check (params_of counts.now numbers.now)) 0 zero⁺ }
+    ensures { record { whole = whole.new; real = real.new } ≡ spelled (parameter_check (params_of counts.now numbers.now)) 0 zero⁺ }
 {
     let q = given::params_of(counts, numbers);
     told::spell(q.check(), 0, 0.0, whole, real);
 }
 
 // The expected durations of the labels.
-#[unsafe(no_mangle)]
-pub extern "C" fn msar_durations(
+pub fn msar_durations(
     counts: &[usize; 6],
     numbers: &[f64; 400],
     durations: &mut [f64; 16],
@@ -202,8 +196,7 @@ pub extern "C" fn msar_durations(
 }
 
 // The stationary shares of the labels.
-#[unsafe(no_mangle)]
-pub extern "C" fn msar_shares(
+pub fn msar_shares(
     counts: &[usize; 6],
     numbers: &[f64; 400],
     shares: &mut [f64; 16],
@@ -220,8 +213,7 @@ pub extern "C" fn msar_shares(
 }
 
 // Whether the parameters are of the spec's shape. It only compares.
-#[unsafe(no_mangle)]
-pub extern "C" fn msar_matches(
+pub fn msar_matches(
     k: usize,
     order: usize,
     switching_ar: bool,
@@ -244,32 +236,28 @@ pub extern "C" fn msar_matches(
 // ---- elementary functions
 
 // The square root, to the nearest binary64.
-#[unsafe(no_mangle)]
-pub extern "C" fn msar_root(x: f64) -> f64
+pub fn msar_root(x: f64) -> f64
     ensures { (result ≡ root_of x) × IsRoot x result }
 {
     root::root(x)
 }
 
 // The natural logarithm, as fdlibm 5.3 works it out.
-#[unsafe(no_mangle)]
-pub extern "C" fn msar_log(x: f64) -> f64
+pub fn msar_log(x: f64) -> f64
     ensures { result ≡ log_of x }
 {
     logarithm::log(x)
 }
 
 // The exponential, as fdlibm 5.3 works it out.
-#[unsafe(no_mangle)]
-pub extern "C" fn msar_exp(x: f64) -> f64
+pub fn msar_exp(x: f64) -> f64
     ensures { result ≡ exp_of x }
 {
     exp::exp(x)
 }
 
 // The logarithm of the standard normal density.
-#[unsafe(no_mangle)]
-pub extern "C" fn msar_lnpdf(z: f64) -> f64
+pub fn msar_lnpdf(z: f64) -> f64
     ensures { result ≡ lnpdf_of z }
 {
     normal::lnpdf(z)
