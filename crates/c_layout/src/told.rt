@@ -10,7 +10,7 @@ use spec::Windows;
 
 // A refusal: its number, its place and its value.
 fn refuse(r: Refusal, whole: &mut [usize; 4], real: &mut [f64; 2])
-    ensures { record { whole = whole.exit.now; real = real.new } ≡ spelled (Failed r) 0 zero⁺ }
+    ensures { record { whole = whole.new; real = real.new } ≡ spelled (Failed r) 0 zero⁺ }
 {
     *whole = [r.number(), r.place(), 0, 0];
     *real = [r.value(), 0.0];
@@ -18,7 +18,7 @@ fn refuse(r: Refusal, whole: &mut [usize; 4], real: &mut [f64; 2])
 
 // An answer with its place and its log-likelihood, or the refusal.
 pub fn spell(check: Check, place: usize, loglik: f64, whole: &mut [usize; 4], real: &mut [f64; 2])
-    ensures { record { whole = whole.exit.now; real = real.new } ≡ spelled check place loglik }
+    ensures { record { whole = whole.new; real = real.new } ≡ spelled check place loglik }
 {
     match check {
         Check::Passed => {
@@ -30,7 +30,7 @@ pub fn spell(check: Check, place: usize, loglik: f64, whole: &mut [usize; 4], re
 }
 
 pub fn spell_windows(windows: Windows, whole: &mut [usize; 4], real: &mut [f64; 2])
-    ensures { record { whole = whole.exit.now; real = real.new } ≡ windows_spelled windows }
+    ensures { record { whole = whole.new; real = real.new } ≡ windows_spelled windows }
 {
     match windows {
         Windows::Count(m) => spell(Check::Passed, m, 0.0, whole, real),
@@ -77,7 +77,7 @@ pub fn spell_fit(
     whole: &mut [usize; 4],
     real: &mut [f64; 2],
 )
-    ensures { record { whole = whole.exit.now; real = real.new } ≡ fit_spelled check loglik iterations converged }
+    ensures { record { whole = whole.new; real = real.new } ≡ fit_spelled check loglik iterations converged }
 {
     match check {
         Check::Passed => {
