@@ -19,7 +19,6 @@ use Rattle.refusal.specs.declared.Check.TheVariants.{Passed, Failed}
 use Rattle.refusal.proofs.Each.{each_found, each_ext}
 use Rattle.params.specs.Parameters.{block_of}
 use Rattle.em_ridge.specs.declared.Update.{Update}
-use Rattle.em_coefficients.specs.declared.Blocks.{Blocks}
 use Rattle.em_coefficients.specs.Coefficients.{blocks_of}
 use Rattle.em_coefficients.specs.Steps.{distance_of, table_term, side_term, added_to}
 
