@@ -332,6 +332,7 @@ def collapsed(text, root, found):
     while True:
         old = text
         text = re.sub(rf"(?<![\w.-])({r})(?:\.before)+", r"\1", text)
+        text = re.sub(rf"\brw (\([^()]*\)|[\w-]+) at {r}\.", rf"rw \1 at\0{root}.", text)
         for n in found:
             text = re.sub(rf"\({word(n)} {r}\)", root, text)
             text = re.sub(rf"{word(n)} {r}(?![\w.-])", root, text)
@@ -340,7 +341,26 @@ def collapsed(text, root, found):
             text = text[: m.start()] + re.sub(word(m[1]), root, text[m.end():])
         text = re.sub(rf"\({r}\)", root, text)
         if text == old:
+            return text.replace("at\0", "at ")
+
+
+def bound_again(text):
+    """`l.x` where a binder has the name x: the binder's x."""
+    while True:
+        m = re.search(r"λ [^.()]*?(?:l\.(\w+))[^()]*?\. ", text)
+        if not m:
             return text
+        i, depth = m.end(), 0
+        while i < len(text):
+            if text[i] in "([{":
+                depth += 1
+            if text[i] in ")]}":
+                if depth == 0:
+                    break
+                depth -= 1
+            i += 1
+        body = re.sub(r"(?<![\w.])l\." + m[1] + r"(?!\w)", m[1], text[m.start():i])
+        text = text[: m.start()] + body + text[i:]
 
 
 def turn(path, it, crate, func):
@@ -431,7 +451,7 @@ def turn(path, it, crate, func):
                 said += f"; {m[1]}: parameters not told"
                 inv.append("\n".join(note + [f"abbrev pub {kind}-{new} : goal.{kind}-{new}", f"{kind}-{new} l ={mm[2]}"]))
                 continue
-            told = substitute(mm[2], table)
+            told = bound_again(substitute(mm[2], table))
             if kind == "decreases":
                 # a `for` needs no measure
                 inv.append(("measure", new, "\n".join(note + [f"abbrev pub decreases-{new} : goal.decreases-{new}", f"decreases-{new} l ={told}"])))
@@ -477,6 +497,13 @@ def turn(path, it, crate, func):
             body = collapsed(body, mm[1], found)
             for n in found:
                 body = re.sub(rf"(?<![\w.-]){re.escape(n)}\.", mm[1] + ".", body)
+            place = re.search(r"\(\w+ : tie\.([A-Z][\w-]*)", body)[1]
+            for n, old in takes.items():
+                one = re.search(rf"(?m)^{re.escape(n)} : \((\w+) : [^\n]*\n{re.escape(n)} \1 =\s+([^\n]*)\n(?! )", head + "\n")
+                if one and old != place and code[0].split()[0] != n:
+                    other = re.sub(rf"(?<![\w.-]){re.escape(one[1])}(?=\.)", mm[1], collapsed(one[2], one[1], found))
+                    body = re.sub(rf"\({re.escape(n)} {re.escape(mm[1])}\)", f"({other})", body)
+                    body = re.sub(rf"(?<![\w.-]){re.escape(n)} {re.escape(mm[1])}(?![\w.-])", f"({other})", body)
         ans.append(names.types(names.fields(body)))
         # an own lemma that answers goals by its bare name
         m = re.match(r"(?:abbrev )?(\S+) :", code[0])
