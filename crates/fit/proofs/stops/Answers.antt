@@ -3,12 +3,8 @@ use Rattle.fit.specs.Fit.{stops}
 use lib.Ieee.{le}
 use Prim.Native.Nat.{◌-◌}
 use borrow.Author.Rules.{rules}
-use Rattle.fit.proofs.stops.Statement.{statement}
-use Rattle.fit.proofs.stops.Tie as tie
+use Rattle.fit.proofs.stops.Goals as goal
 
-returns : tie.Need-returns
+pub returns : goal.returns
 unfolding le stops
 returns c = search rules
-
-pub stops-spec : {M : Type 1} → statement M
-stops-spec = tie.close (tie.spec returns)
