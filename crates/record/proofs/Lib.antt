@@ -1,4 +1,0 @@
--- the laws that the walks share
-pub mod Apart
-pub mod Kit
-pub mod Thin
