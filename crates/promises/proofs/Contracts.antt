@@ -10,13 +10,15 @@ use contract.Running.{Running}
 use prog.Memory.{Memory}
 use prog.Model.{Model}
 use prog.Routine.{Routine}
+use prog.Wired.{Code, Wired}
+use mir.Syntax.{Callee}
 use types.Logic.{Logic, sem}
 use denote.Triple.Entry.{Args, Res}
 use denote.Triple.Clauses.{Ended, Clauses, Lasts, AtExit, at_exit, lasts, closing}
 use denote.Triple.Spec.{Meets}
 use denote.Triple.Table.{run_framed}
 use denote.Triple.Weaken.{weaken_under}
-use Rattle.promises.specs.Contracts.{OutcomeOf, Exactly, OneOutcome, giving, Contract, EntryPoint}
+use Rattle.promises.specs.Promised.{OutcomeOf, Exactly, OneOutcome, giving, Contract, EntryPoint}
 
 -- two results that are equal to the same
 pub one_outcome : {A : Type 0} {d r r' : A} → r ≡ d → r' ≡ d → r ≡ r'
@@ -70,16 +72,16 @@ abbrev ensuring : {M : Type 1} (T : Ended) → ((κs : Lfts T.signature.lifetime
 ensuring T P 𝓤 𝓛 mem run κs a = record { ghost = Unit {0}; requires = λ g. emp 𝓤; ensures = λ g r e. fact 𝓤 (P κs a r e) }
 
 -- an entry point, from what its `ensures` says of a result r and last values ws, and from the function's own proof
-pub entry_point : {M : Type 1} {T : Ended} {P : (κs : Lfts T.signature.lifetimes) → Args T.signature κs → Res T.signature κs → AtExit T κs → Type 0} {ρ : Routine} {outcome : OutcomeOf T}
+pub entry_point : {M : Type 1} {T : Ended} {P : (κs : Lfts T.signature.lifetimes) → Args T.signature κs → Res T.signature κs → AtExit T κs → Type 0} {code : Code} {name : Callee} {outcome : OutcomeOf T}
     → ((κs : Lfts T.signature.lifetimes) (a : Args T.signature κs) (r : Res T.signature κs) (ws : Lasts T κs a) → P κs a r (at_exit T κs a ws) → (r ≡ (outcome κs a).0) × (ws ≡ (outcome κs a).1))
     → ((𝓤 : Ura M) (𝓛 : Logic 𝓤) (𝓜 : Model 𝓤 𝓛.H) (𝓡 : Running 𝓤 𝓛.H 𝓜)
-    → Meets 𝓛 T.signature (𝓡.run ρ) (closing 𝓛 T (ensuring T P 𝓤 𝓛 𝓜.mem 𝓡.run)))
-    → EntryPoint M T (ensuring T P) ρ outcome
-entry_point {M} {T} {P} {ρ} {outcome} says_so met =
+    → Wired 𝓡.env code → Meets 𝓛 T.signature (𝓡.run (𝓡.env name)) (closing 𝓛 T (ensuring T P 𝓤 𝓛 𝓜.mem 𝓡.returns)))
+    → EntryPoint M T (ensuring T P) code name outcome
+entry_point {M} {T} {P} {code} {name} {outcome} says_so met =
     let exactly : (𝓤 : Ura M) (𝓛 : Logic 𝓤) (mem : Memory → SProp 𝓤) (run : Routine → Fun 𝓤) → Exactly 𝓤 T (ensuring T P 𝓤 𝓛 mem run) outcome =
     λ 𝓤 𝓛 mem run. record { named = λ κs a. tt; asks_nothing = λ κs a g. id⊢ 𝓤 (emp 𝓤); gives = λ κs a g r ws. says 𝓤 (says_so κs a r ws) } in
     record {
       exactly = exactly;
       one_outcome = λ 𝓤 𝓛 mem run. exactly_one 𝓤 (exactly 𝓤 𝓛 mem run);
-      runs = λ 𝓤 𝓛 𝓜 𝓡. runs_so 𝓤 𝓛 𝓜 𝓡 ρ (exactly 𝓤 𝓛 𝓜.mem 𝓡.run) (met 𝓤 𝓛 𝓜 𝓡);
+      runs = λ 𝓤 𝓛 𝓜 𝓡 w. runs_so 𝓤 𝓛 𝓜 𝓡 (𝓡.env name) (exactly 𝓤 𝓛 𝓜.mem 𝓡.returns) (met 𝓤 𝓛 𝓜 𝓡 w);
     }

@@ -1,4 +1,4 @@
--- The sums over lists of crates/rounding are document 01's sums upward; those over a label's places run over i, i + k, i + 2·k, .. Assumes nothing.
+-- The sums over lists of crates/rounding are document 01's sums upward; those over a label's places run over i, i + k, i + 2-k, .. Assumes nothing.
 use mathlib.Core.Path.{◌≡◌, refl, ap, ◌∙◌}
 use mathlib.Core.Bool.{Bool, true, false, cond}
 use mathlib.Core.List.{List, [], ◌∷◌, ◌++◌, map}
@@ -80,7 +80,7 @@ module _ (k i : ℕ) (f : ℕ → Float) where
       last true e = ap (λ (s : Float). s ⊕ f n) e
       last false e = e
 
-  -- from a multiple c·k on, the place i + c·k alone is met
+  -- from a multiple c-k on, the place i + c-k alone is met
   one_more : (c r : ℕ) (s : Float)
       → cond (r =? i) (cond (i <? r) (s ⊕ f (i + c * k)) s ⊕ f (c * k + r)) (cond (i <? r) (s ⊕ f (i + c * k)) s) ≡ cond (i <? suc r) (s ⊕ f (i + c * k)) s
   one_more c r s = elim (le_or_lt r i) [
@@ -105,6 +105,6 @@ module _ (k i : ℕ) (f : ℕ → Float) where
       ∙ ap (λ (b : Bool). cond b (sum_where has f (c * k) ⊕ f (i + c * k)) (sum_where has f (c * k))) (lt-ltb i k h)
       ∙ ap (λ (s : Float). s ⊕ f (i + c * k)) (where_tab h c)
 
-  -- their sum is the sum upward of the places i, i + k, i + 2·k, ..
+  -- their sum is the sum upward of the places i, i + k, i + 2-k, ..
   pub part_tab : i < k → (power : ℕ) → total binary64 (part k i 0 (tab f (power * k))) ≡ sum_up (λ j. f (i + j * k)) power
   part_tab h power = part_where (power * k) ∙ where_tab h power

@@ -1,6 +1,6 @@
 -- The whole promise to a caller: for each entry point of the library (what C and the record call, and what a program is meant to call) its type, the
 -- outcome that it gives, by the definitions, and, in `EntryPoints`, that it asks nothing, gives exactly that, and has no second outcome
--- (`EntryPoint`, Contracts.antt). After document 01, "How much a contract says", and include/msar.h. What isn't here is in BetweenCrates.antt or in
+-- (`EntryPoint`, Promised.antt). After document 01, "How much a contract says", and include/msar.h. What isn't here is in BetweenCrates.antt or in
 -- docs/CONTRACTS.md, "Exceptions".
 use Rattle.std.specs.Prelude.{[], ◌∷◌}
 use Rattle.std.specs.Float.Ieee.Scale.{finite}
@@ -27,65 +27,123 @@ use Rattle.text_decimal_read.specs.Text.{read_of}
 use Rattle.text_decimal_write.specs.Decimals.{written_of}
 use Rattle.c_layout.specs.Layout.{params_of, spelled, windows_spelled}
 use Rattle.c_interface.specs.Interface.{spec_of, durations_listed, shares_listed, left, fit_left}
-use Rattle.number.proofs.pattern as number·pattern
-use Rattle.number.proofs.of_pattern as number·of_pattern
-use Rattle.number.proofs.magnitude as number·magnitude
-use Rattle.number.proofs.is_finite as number·is_finite
-use Rattle.number.proofs.is_usable as number·is_usable
-use Rattle.number.proofs.max as number·max
-use Rattle.root.proofs.root as root·root
-use Rattle.logarithm.proofs.log as log·log
-use Rattle.exp.proofs.exp as exp·exp
-use Rattle.normal.proofs.lnpdf as normal·lnpdf
-use Rattle.linsolve.proofs.solve as linsolve·solve
-use Rattle.refusal.proofs.first_of as refusal·first_of
-use Rattle.refusal.proofs.Refusal.number as refusal·number
-use Rattle.refusal.proofs.Refusal.place as refusal·place
-use Rattle.refusal.proofs.Refusal.value as refusal·value
-use Rattle.spec.proofs.MsarSpec.expanded_states as spec·expanded_states
-use Rattle.params.proofs.MsarParams.new as params·new
-use Rattle.params.proofs.MsarParams.k_regimes as params·k_regimes
-use Rattle.params.proofs.MsarParams.order as params·order
-use Rattle.params.proofs.MsarParams.switching_ar as params·switching_ar
-use Rattle.params.proofs.MsarParams.switching_variance as params·switching_variance
-use Rattle.params.proofs.MsarParams.matches_spec as params·matches_spec
-use Rattle.params.proofs.MsarParams.check as params·check
-use Rattle.params.proofs.MsarParams.expected_durations as params·expected_durations
-use Rattle.stationary.proofs.stationary_shares as stationary·stationary_shares
-use Rattle.binding.proofs.bind as binding·bind
-use Rattle.binding.proofs.memory as binding·memory
-use Rattle.binding.proofs.parameters as binding·parameters
-use Rattle.binding.proofs.asked as binding·asked
-use Rattle.calls.proofs.loglike as calls·loglike
-use Rattle.calls.proofs.filter as calls·filter
-use Rattle.calls.proofs.smooth as calls·smooth
-use Rattle.fit.proofs.fit as fit·fit
-use Rattle.record.proofs.MarkovSwitchingAr.new as record·new
-use Rattle.record.proofs.MarkovSwitchingAr.loglike as record·loglike
-use Rattle.record.proofs.MarkovSwitchingAr.filter as record·filter
-use Rattle.record.proofs.MarkovSwitchingAr.smooth as record·smooth
-use Rattle.record.proofs.MarkovSwitchingAr.fit as record·fit
-use Rattle.record.proofs.check_of as record·check_of
-use Rattle.record.proofs.loglike_of as record·loglike_of
-use Rattle.record.proofs.filter_of as record·filter_of
-use Rattle.record.proofs.smooth_of as record·smooth_of
-use Rattle.record.proofs.fit_of as record·fit_of
-use Rattle.text_decimal_read.proofs.read as text_decimal_read·read
-use Rattle.text_decimal_write.proofs.write as text_decimal_write·write
-use Rattle.c_interface.proofs.msar_loglike as c·loglike
-use Rattle.c_interface.proofs.msar_filter as c·filter
-use Rattle.c_interface.proofs.msar_smooth as c·smooth
-use Rattle.c_interface.proofs.msar_fit as c·fit
-use Rattle.c_interface.proofs.msar_windows as c·windows
-use Rattle.c_interface.proofs.msar_check as c·check
-use Rattle.c_interface.proofs.msar_durations as c·durations
-use Rattle.c_interface.proofs.msar_shares as c·shares
-use Rattle.c_interface.proofs.msar_matches as c·matches
-use Rattle.c_interface.proofs.msar_root as c·root
-use Rattle.c_interface.proofs.msar_log as c·log
-use Rattle.c_interface.proofs.msar_exp as c·exp
-use Rattle.c_interface.proofs.msar_lnpdf as c·lnpdf
-use Rattle.promises.specs.Contracts.{OutcomeOf, EntryPoint}
+use Rattle.number.specs.contracts.pattern as number-pattern
+use Rattle.number.proofs.pattern as number-pattern-code
+use Rattle.number.specs.contracts.of_pattern as number-of_pattern
+use Rattle.number.proofs.of_pattern as number-of_pattern-code
+use Rattle.number.specs.contracts.magnitude as number-magnitude
+use Rattle.number.proofs.magnitude as number-magnitude-code
+use Rattle.number.specs.contracts.is_finite as number-is_finite
+use Rattle.number.proofs.is_finite as number-is_finite-code
+use Rattle.number.specs.contracts.is_usable as number-is_usable
+use Rattle.number.proofs.is_usable as number-is_usable-code
+use Rattle.number.specs.contracts.max as number-max
+use Rattle.number.proofs.max as number-max-code
+use Rattle.root.specs.contracts.root as root-root
+use Rattle.root.proofs.root as root-root-code
+use Rattle.logarithm.specs.contracts.log as log-log
+use Rattle.logarithm.proofs.log as log-log-code
+use Rattle.exp.specs.contracts.exp as exp-exp
+use Rattle.exp.proofs.exp as exp-exp-code
+use Rattle.normal.specs.contracts.lnpdf as normal-lnpdf
+use Rattle.normal.proofs.lnpdf as normal-lnpdf-code
+use Rattle.linsolve.specs.contracts.solve as linsolve-solve
+use Rattle.linsolve.proofs.solve as linsolve-solve-code
+use Rattle.refusal.specs.contracts.first_of as refusal-first_of
+use Rattle.refusal.proofs.first_of as refusal-first_of-code
+use Rattle.refusal.specs.contracts.Refusal.number as refusal-number
+use Rattle.refusal.proofs.Refusal.number as refusal-number-code
+use Rattle.refusal.specs.contracts.Refusal.place as refusal-place
+use Rattle.refusal.proofs.Refusal.place as refusal-place-code
+use Rattle.refusal.specs.contracts.Refusal.value as refusal-value
+use Rattle.refusal.proofs.Refusal.value as refusal-value-code
+use Rattle.spec.specs.contracts.MsarSpec.expanded_states as spec-expanded_states
+use Rattle.spec.proofs.MsarSpec.expanded_states as spec-expanded_states-code
+use Rattle.params.specs.contracts.MsarParams.new as params-new
+use Rattle.params.proofs.MsarParams.new as params-new-code
+use Rattle.params.specs.contracts.MsarParams.k_regimes as params-k_regimes
+use Rattle.params.proofs.MsarParams.k_regimes as params-k_regimes-code
+use Rattle.params.specs.contracts.MsarParams.order as params-order
+use Rattle.params.proofs.MsarParams.order as params-order-code
+use Rattle.params.specs.contracts.MsarParams.switching_ar as params-switching_ar
+use Rattle.params.proofs.MsarParams.switching_ar as params-switching_ar-code
+use Rattle.params.specs.contracts.MsarParams.switching_variance as params-switching_variance
+use Rattle.params.proofs.MsarParams.switching_variance as params-switching_variance-code
+use Rattle.params.specs.contracts.MsarParams.matches_spec as params-matches_spec
+use Rattle.params.proofs.MsarParams.matches_spec as params-matches_spec-code
+use Rattle.params.specs.contracts.MsarParams.check as params-check
+use Rattle.params.proofs.MsarParams.check as params-check-code
+use Rattle.params.specs.contracts.MsarParams.expected_durations as params-expected_durations
+use Rattle.params.proofs.MsarParams.expected_durations as params-expected_durations-code
+use Rattle.stationary.specs.contracts.stationary_shares as stationary-stationary_shares
+use Rattle.stationary.proofs.stationary_shares as stationary-stationary_shares-code
+use Rattle.binding.specs.contracts.bind as binding-bind
+use Rattle.binding.proofs.bind as binding-bind-code
+use Rattle.binding.specs.contracts.memory as binding-memory
+use Rattle.binding.proofs.memory as binding-memory-code
+use Rattle.binding.specs.contracts.parameters as binding-parameters
+use Rattle.binding.proofs.parameters as binding-parameters-code
+use Rattle.binding.specs.contracts.asked as binding-asked
+use Rattle.binding.proofs.asked as binding-asked-code
+use Rattle.calls.specs.contracts.loglike as calls-loglike
+use Rattle.calls.proofs.loglike as calls-loglike-code
+use Rattle.calls.specs.contracts.filter as calls-filter
+use Rattle.calls.proofs.filter as calls-filter-code
+use Rattle.calls.specs.contracts.smooth as calls-smooth
+use Rattle.calls.proofs.smooth as calls-smooth-code
+use Rattle.fit.specs.contracts.fit as fit-fit
+use Rattle.fit.proofs.fit as fit-fit-code
+use Rattle.record.specs.contracts.MarkovSwitchingAr.new as record-new
+use Rattle.record.proofs.MarkovSwitchingAr.new as record-new-code
+use Rattle.record.specs.contracts.MarkovSwitchingAr.loglike as record-loglike
+use Rattle.record.proofs.MarkovSwitchingAr.loglike as record-loglike-code
+use Rattle.record.specs.contracts.MarkovSwitchingAr.filter as record-filter
+use Rattle.record.proofs.MarkovSwitchingAr.filter as record-filter-code
+use Rattle.record.specs.contracts.MarkovSwitchingAr.smooth as record-smooth
+use Rattle.record.proofs.MarkovSwitchingAr.smooth as record-smooth-code
+use Rattle.record.specs.contracts.MarkovSwitchingAr.fit as record-fit
+use Rattle.record.proofs.MarkovSwitchingAr.fit as record-fit-code
+use Rattle.record.specs.contracts.check_of as record-check_of
+use Rattle.record.proofs.check_of as record-check_of-code
+use Rattle.record.specs.contracts.loglike_of as record-loglike_of
+use Rattle.record.proofs.loglike_of as record-loglike_of-code
+use Rattle.record.specs.contracts.filter_of as record-filter_of
+use Rattle.record.proofs.filter_of as record-filter_of-code
+use Rattle.record.specs.contracts.smooth_of as record-smooth_of
+use Rattle.record.proofs.smooth_of as record-smooth_of-code
+use Rattle.record.specs.contracts.fit_of as record-fit_of
+use Rattle.record.proofs.fit_of as record-fit_of-code
+use Rattle.text_decimal_read.specs.contracts.read as text_decimal_read-read
+use Rattle.text_decimal_read.proofs.read as text_decimal_read-read-code
+use Rattle.text_decimal_write.specs.contracts.write as text_decimal_write-write
+use Rattle.text_decimal_write.proofs.write as text_decimal_write-write-code
+use Rattle.c_interface.specs.contracts.msar_loglike as c-loglike
+use Rattle.c_interface.proofs.msar_loglike as c-loglike-code
+use Rattle.c_interface.specs.contracts.msar_filter as c-filter
+use Rattle.c_interface.proofs.msar_filter as c-filter-code
+use Rattle.c_interface.specs.contracts.msar_smooth as c-smooth
+use Rattle.c_interface.proofs.msar_smooth as c-smooth-code
+use Rattle.c_interface.specs.contracts.msar_fit as c-fit
+use Rattle.c_interface.proofs.msar_fit as c-fit-code
+use Rattle.c_interface.specs.contracts.msar_windows as c-windows
+use Rattle.c_interface.proofs.msar_windows as c-windows-code
+use Rattle.c_interface.specs.contracts.msar_check as c-check
+use Rattle.c_interface.proofs.msar_check as c-check-code
+use Rattle.c_interface.specs.contracts.msar_durations as c-durations
+use Rattle.c_interface.proofs.msar_durations as c-durations-code
+use Rattle.c_interface.specs.contracts.msar_shares as c-shares
+use Rattle.c_interface.proofs.msar_shares as c-shares-code
+use Rattle.c_interface.specs.contracts.msar_matches as c-matches
+use Rattle.c_interface.proofs.msar_matches as c-matches-code
+use Rattle.c_interface.specs.contracts.msar_root as c-root
+use Rattle.c_interface.proofs.msar_root as c-root-code
+use Rattle.c_interface.specs.contracts.msar_log as c-log
+use Rattle.c_interface.proofs.msar_log as c-log-code
+use Rattle.c_interface.specs.contracts.msar_exp as c-exp
+use Rattle.c_interface.proofs.msar_exp as c-exp-code
+use Rattle.c_interface.specs.contracts.msar_lnpdf as c-lnpdf
+use Rattle.c_interface.proofs.msar_lnpdf as c-lnpdf-code
+use Rattle.promises.specs.Promised.{OutcomeOf, EntryPoint}
 use Rattle.promises.specs.Types.{fn, value, table, reals, reals_mut, bytes, real_array, real_array_mut, whole_array, whole_array_mut, model, made, Check, Refusal, MsarSpec, Windows, Solution, MsarParams, Built, Durations, Shares, Bound, Answer, Fitted, Parsed, Written}
 
 -- Below, `fn n parameters result` is a function's type (Types.antt), with the references numbered from 0. Its arguments are a tuple in the order of its
@@ -150,7 +208,7 @@ msar_durations_type = fn 5 (whole_array 0 tt 6 ∷ real_array 1 tt 400 ∷ real_
 
 abbrev pub msar_durations_outcome : OutcomeOf msar_durations_type
 msar_durations_outcome κs (counts, (numbers, (durations, _))) =
-    let o = durations_listed (durations_of (params_of counts.now numbers.now)) (durations .now) in
+    let o = durations_listed (durations_of (params_of counts.now numbers.now)) durations.now in
     (tt, (tt, (tt, (o.values, (o.whole, (o.real, tt))))))
 
 abbrev pub msar_shares_type : Ended
@@ -158,7 +216,7 @@ msar_shares_type = fn 5 (whole_array 0 tt 6 ∷ real_array 1 tt 400 ∷ real_arr
 
 abbrev pub msar_shares_outcome : OutcomeOf msar_shares_type
 msar_shares_outcome κs (counts, (numbers, (shares, _))) =
-    let o = shares_listed (shares_of (params_of counts.now numbers.now)) (shares .now) in
+    let o = shares_listed (shares_of (params_of counts.now numbers.now)) shares.now in
     (tt, (tt, (tt, (o.values, (o.whole, (o.real, tt))))))
 
 abbrev pub msar_matches_type : Ended
@@ -439,7 +497,7 @@ abbrev pub read_type : Ended
 read_type = fn 1 (bytes 0 tt ∷ []) (value Parsed)
 
 abbrev pub read_outcome : OutcomeOf read_type
-read_outcome κs (text, _) = (read_of (text .now), (tt, tt))
+read_outcome κs (text, _) = (read_of text.now, (tt, tt))
 
 abbrev pub write_type : Ended
 write_type = fn 0 (value f64 ∷ []) (value Written)
@@ -451,71 +509,71 @@ write_outcome κs (x, _) = (written_of x, (tt, tt))
 
 pub record EntryPoints (M : Type 1) : Type 2 where
   -- what C calls, on a series
-  pub msar_loglike : EntryPoint M msar_loglike_type c·loglike.clauses c·loglike.Symbol.routine msar_loglike_outcome
-  pub msar_filter : EntryPoint M msar_filter_type c·filter.clauses c·filter.Symbol.routine msar_filter_outcome
-  pub msar_smooth : EntryPoint M msar_smooth_type c·smooth.clauses c·smooth.Symbol.routine msar_smooth_outcome
-  pub msar_fit : EntryPoint M msar_fit_type c·fit.clauses c·fit.Symbol.routine msar_fit_outcome
+  pub msar_loglike : EntryPoint M msar_loglike_type (λ 𝓤 𝓛. c-loglike.clauses 𝓛) c-loglike-code.Symbol.code c-loglike-code.Symbol.name msar_loglike_outcome
+  pub msar_filter : EntryPoint M msar_filter_type (λ 𝓤 𝓛. c-filter.clauses 𝓛) c-filter-code.Symbol.code c-filter-code.Symbol.name msar_filter_outcome
+  pub msar_smooth : EntryPoint M msar_smooth_type (λ 𝓤 𝓛. c-smooth.clauses 𝓛) c-smooth-code.Symbol.code c-smooth-code.Symbol.name msar_smooth_outcome
+  pub msar_fit : EntryPoint M msar_fit_type (λ 𝓤 𝓛. c-fit.clauses 𝓛) c-fit-code.Symbol.code c-fit-code.Symbol.name msar_fit_outcome
   -- what C calls, on a spec or on parameters alone
-  pub msar_windows : EntryPoint M msar_windows_type c·windows.clauses c·windows.Symbol.routine msar_windows_outcome
-  pub msar_check : EntryPoint M msar_check_type c·check.clauses c·check.Symbol.routine msar_check_outcome
-  pub msar_durations : EntryPoint M msar_durations_type c·durations.clauses c·durations.Symbol.routine msar_durations_outcome
-  pub msar_shares : EntryPoint M msar_shares_type c·shares.clauses c·shares.Symbol.routine msar_shares_outcome
-  pub msar_matches : EntryPoint M msar_matches_type c·matches.clauses c·matches.Symbol.routine msar_matches_outcome
+  pub msar_windows : EntryPoint M msar_windows_type (λ 𝓤 𝓛. c-windows.clauses 𝓛) c-windows-code.Symbol.code c-windows-code.Symbol.name msar_windows_outcome
+  pub msar_check : EntryPoint M msar_check_type (λ 𝓤 𝓛. c-check.clauses 𝓛) c-check-code.Symbol.code c-check-code.Symbol.name msar_check_outcome
+  pub msar_durations : EntryPoint M msar_durations_type (λ 𝓤 𝓛. c-durations.clauses 𝓛) c-durations-code.Symbol.code c-durations-code.Symbol.name msar_durations_outcome
+  pub msar_shares : EntryPoint M msar_shares_type (λ 𝓤 𝓛. c-shares.clauses 𝓛) c-shares-code.Symbol.code c-shares-code.Symbol.name msar_shares_outcome
+  pub msar_matches : EntryPoint M msar_matches_type (λ 𝓤 𝓛. c-matches.clauses 𝓛) c-matches-code.Symbol.code c-matches-code.Symbol.name msar_matches_outcome
   -- the calls on a series
-  pub loglike : EntryPoint M loglike_type calls·loglike.clauses calls·loglike.Symbol.routine loglike_outcome
-  pub filter : EntryPoint M filter_type calls·filter.clauses calls·filter.Symbol.routine filter_outcome
-  pub smooth : EntryPoint M smooth_type calls·smooth.clauses calls·smooth.Symbol.routine smooth_outcome
-  pub fit : EntryPoint M fit_type fit·fit.clauses fit·fit.Symbol.routine fit_outcome
+  pub loglike : EntryPoint M loglike_type (λ 𝓤 𝓛. calls-loglike.clauses 𝓛) calls-loglike-code.Symbol.code calls-loglike-code.Symbol.name loglike_outcome
+  pub filter : EntryPoint M filter_type (λ 𝓤 𝓛. calls-filter.clauses 𝓛) calls-filter-code.Symbol.code calls-filter-code.Symbol.name filter_outcome
+  pub smooth : EntryPoint M smooth_type (λ 𝓤 𝓛. calls-smooth.clauses 𝓛) calls-smooth-code.Symbol.code calls-smooth-code.Symbol.name smooth_outcome
+  pub fit : EntryPoint M fit_type (λ 𝓤 𝓛. fit-fit.clauses 𝓛) fit-fit-code.Symbol.code fit-fit-code.Symbol.name fit_outcome
   -- the checks of what a call is handed
-  pub bind : EntryPoint M bind_type binding·bind.clauses binding·bind.Symbol.routine bind_outcome
-  pub memory : EntryPoint M memory_type binding·memory.clauses binding·memory.Symbol.routine memory_outcome
-  pub parameters : EntryPoint M parameters_type binding·parameters.clauses binding·parameters.Symbol.routine parameters_outcome
-  pub asked : EntryPoint M asked_type binding·asked.clauses binding·asked.Symbol.routine asked_outcome
+  pub bind : EntryPoint M bind_type (λ 𝓤 𝓛. binding-bind.clauses 𝓛) binding-bind-code.Symbol.code binding-bind-code.Symbol.name bind_outcome
+  pub memory : EntryPoint M memory_type (λ 𝓤 𝓛. binding-memory.clauses 𝓛) binding-memory-code.Symbol.code binding-memory-code.Symbol.name memory_outcome
+  pub parameters : EntryPoint M parameters_type (λ 𝓤 𝓛. binding-parameters.clauses 𝓛) binding-parameters-code.Symbol.code binding-parameters-code.Symbol.name parameters_outcome
+  pub asked : EntryPoint M asked_type (λ 𝓤 𝓛. binding-asked.clauses 𝓛) binding-asked-code.Symbol.code binding-asked-code.Symbol.name asked_outcome
   -- the record
-  pub record_new : EntryPoint M record_new_type record·new.clauses record·new.Symbol.routine record_new_outcome
-  pub record_loglike : EntryPoint M record_loglike_type record·loglike.clauses record·loglike.Symbol.routine record_loglike_outcome
-  pub record_filter : EntryPoint M record_filter_type record·filter.clauses record·filter.Symbol.routine record_filter_outcome
-  pub record_smooth : EntryPoint M record_smooth_type record·smooth.clauses record·smooth.Symbol.routine record_smooth_outcome
-  pub record_fit : EntryPoint M record_fit_type record·fit.clauses record·fit.Symbol.routine record_fit_outcome
+  pub record_new : EntryPoint M record_new_type (λ 𝓤 𝓛. record-new.clauses 𝓛) record-new-code.Symbol.code record-new-code.Symbol.name record_new_outcome
+  pub record_loglike : EntryPoint M record_loglike_type (λ 𝓤 𝓛. record-loglike.clauses 𝓛) record-loglike-code.Symbol.code record-loglike-code.Symbol.name record_loglike_outcome
+  pub record_filter : EntryPoint M record_filter_type (λ 𝓤 𝓛. record-filter.clauses 𝓛) record-filter-code.Symbol.code record-filter-code.Symbol.name record_filter_outcome
+  pub record_smooth : EntryPoint M record_smooth_type (λ 𝓤 𝓛. record-smooth.clauses 𝓛) record-smooth-code.Symbol.code record-smooth-code.Symbol.name record_smooth_outcome
+  pub record_fit : EntryPoint M record_fit_type (λ 𝓤 𝓛. record-fit.clauses 𝓛) record-fit-code.Symbol.code record-fit-code.Symbol.name record_fit_outcome
   -- the record made and used once
-  pub check_of : EntryPoint M check_of_type record·check_of.clauses record·check_of.Symbol.routine check_of_outcome
-  pub loglike_of : EntryPoint M loglike_type record·loglike_of.clauses record·loglike_of.Symbol.routine loglike_outcome
-  pub filter_of : EntryPoint M filter_type record·filter_of.clauses record·filter_of.Symbol.routine filter_outcome
-  pub smooth_of : EntryPoint M smooth_type record·smooth_of.clauses record·smooth_of.Symbol.routine smooth_outcome
-  pub fit_of : EntryPoint M fit_type record·fit_of.clauses record·fit_of.Symbol.routine fit_outcome
+  pub check_of : EntryPoint M check_of_type (λ 𝓤 𝓛. record-check_of.clauses 𝓛) record-check_of-code.Symbol.code record-check_of-code.Symbol.name check_of_outcome
+  pub loglike_of : EntryPoint M loglike_type (λ 𝓤 𝓛. record-loglike_of.clauses 𝓛) record-loglike_of-code.Symbol.code record-loglike_of-code.Symbol.name loglike_outcome
+  pub filter_of : EntryPoint M filter_type (λ 𝓤 𝓛. record-filter_of.clauses 𝓛) record-filter_of-code.Symbol.code record-filter_of-code.Symbol.name filter_outcome
+  pub smooth_of : EntryPoint M smooth_type (λ 𝓤 𝓛. record-smooth_of.clauses 𝓛) record-smooth_of-code.Symbol.code record-smooth_of-code.Symbol.name smooth_outcome
+  pub fit_of : EntryPoint M fit_type (λ 𝓤 𝓛. record-fit_of.clauses 𝓛) record-fit_of-code.Symbol.code record-fit_of-code.Symbol.name fit_outcome
   -- the spec, the parameters, the stationary shares
-  pub expanded_states : EntryPoint M expanded_states_type spec·expanded_states.clauses spec·expanded_states.Symbol.routine expanded_states_outcome
-  pub new : EntryPoint M new_type params·new.clauses params·new.Symbol.routine new_outcome
-  pub check : EntryPoint M check_type params·check.clauses params·check.Symbol.routine check_outcome
-  pub expected_durations : EntryPoint M expected_durations_type params·expected_durations.clauses params·expected_durations.Symbol.routine expected_durations_outcome
-  pub matches_spec : EntryPoint M matches_spec_type params·matches_spec.clauses params·matches_spec.Symbol.routine matches_spec_outcome
-  pub k_regimes : EntryPoint M k_regimes_type params·k_regimes.clauses params·k_regimes.Symbol.routine k_regimes_outcome
-  pub order : EntryPoint M order_type params·order.clauses params·order.Symbol.routine order_outcome
-  pub switching_ar : EntryPoint M switching_ar_type params·switching_ar.clauses params·switching_ar.Symbol.routine switching_ar_outcome
-  pub switching_variance : EntryPoint M switching_variance_type params·switching_variance.clauses params·switching_variance.Symbol.routine switching_variance_outcome
-  pub stationary_shares : EntryPoint M stationary_shares_type stationary·stationary_shares.clauses stationary·stationary_shares.Symbol.routine stationary_shares_outcome
+  pub expanded_states : EntryPoint M expanded_states_type (λ 𝓤 𝓛. spec-expanded_states.clauses 𝓛) spec-expanded_states-code.Symbol.code spec-expanded_states-code.Symbol.name expanded_states_outcome
+  pub new : EntryPoint M new_type (λ 𝓤 𝓛. params-new.clauses 𝓛) params-new-code.Symbol.code params-new-code.Symbol.name new_outcome
+  pub check : EntryPoint M check_type (λ 𝓤 𝓛. params-check.clauses 𝓛) params-check-code.Symbol.code params-check-code.Symbol.name check_outcome
+  pub expected_durations : EntryPoint M expected_durations_type (λ 𝓤 𝓛. params-expected_durations.clauses 𝓛) params-expected_durations-code.Symbol.code params-expected_durations-code.Symbol.name expected_durations_outcome
+  pub matches_spec : EntryPoint M matches_spec_type (λ 𝓤 𝓛. params-matches_spec.clauses 𝓛) params-matches_spec-code.Symbol.code params-matches_spec-code.Symbol.name matches_spec_outcome
+  pub k_regimes : EntryPoint M k_regimes_type (λ 𝓤 𝓛. params-k_regimes.clauses 𝓛) params-k_regimes-code.Symbol.code params-k_regimes-code.Symbol.name k_regimes_outcome
+  pub order : EntryPoint M order_type (λ 𝓤 𝓛. params-order.clauses 𝓛) params-order-code.Symbol.code params-order-code.Symbol.name order_outcome
+  pub switching_ar : EntryPoint M switching_ar_type (λ 𝓤 𝓛. params-switching_ar.clauses 𝓛) params-switching_ar-code.Symbol.code params-switching_ar-code.Symbol.name switching_ar_outcome
+  pub switching_variance : EntryPoint M switching_variance_type (λ 𝓤 𝓛. params-switching_variance.clauses 𝓛) params-switching_variance-code.Symbol.code params-switching_variance-code.Symbol.name switching_variance_outcome
+  pub stationary_shares : EntryPoint M stationary_shares_type (λ 𝓤 𝓛. stationary-stationary_shares.clauses 𝓛) stationary-stationary_shares-code.Symbol.code stationary-stationary_shares-code.Symbol.name stationary_shares_outcome
   -- refusals
-  pub number : EntryPoint M number_type refusal·number.clauses refusal·number.Symbol.routine number_outcome
-  pub place : EntryPoint M place_type refusal·place.clauses refusal·place.Symbol.routine place_outcome
-  pub value : EntryPoint M value_type refusal·value.clauses refusal·value.Symbol.routine value_outcome
-  pub first_of : EntryPoint M first_of_type refusal·first_of.clauses refusal·first_of.Symbol.routine first_of_outcome
+  pub number : EntryPoint M number_type (λ 𝓤 𝓛. refusal-number.clauses 𝓛) refusal-number-code.Symbol.code refusal-number-code.Symbol.name number_outcome
+  pub place : EntryPoint M place_type (λ 𝓤 𝓛. refusal-place.clauses 𝓛) refusal-place-code.Symbol.code refusal-place-code.Symbol.name place_outcome
+  pub value : EntryPoint M value_type (λ 𝓤 𝓛. refusal-value.clauses 𝓛) refusal-value-code.Symbol.code refusal-value-code.Symbol.name value_outcome
+  pub first_of : EntryPoint M first_of_type (λ 𝓤 𝓛. refusal-first_of.clauses 𝓛) refusal-first_of-code.Symbol.code refusal-first_of-code.Symbol.name first_of_outcome
   -- the solver, and elementary functions, here and from C
-  pub solve : EntryPoint M solve_type linsolve·solve.clauses linsolve·solve.Symbol.routine solve_outcome
-  pub root : EntryPoint M root_type root·root.clauses root·root.Symbol.routine root_outcome
-  pub log : EntryPoint M log_type log·log.clauses log·log.Symbol.routine log_outcome
-  pub exp : EntryPoint M exp_type exp·exp.clauses exp·exp.Symbol.routine exp_outcome
-  pub lnpdf : EntryPoint M lnpdf_type normal·lnpdf.clauses normal·lnpdf.Symbol.routine lnpdf_outcome
-  pub msar_root : EntryPoint M root_type c·root.clauses c·root.Symbol.routine root_outcome
-  pub msar_log : EntryPoint M log_type c·log.clauses c·log.Symbol.routine log_outcome
-  pub msar_exp : EntryPoint M exp_type c·exp.clauses c·exp.Symbol.routine exp_outcome
-  pub msar_lnpdf : EntryPoint M lnpdf_type c·lnpdf.clauses c·lnpdf.Symbol.routine lnpdf_outcome
+  pub solve : EntryPoint M solve_type (λ 𝓤 𝓛. linsolve-solve.clauses 𝓛) linsolve-solve-code.Symbol.code linsolve-solve-code.Symbol.name solve_outcome
+  pub root : EntryPoint M root_type (λ 𝓤 𝓛. root-root.clauses 𝓛) root-root-code.Symbol.code root-root-code.Symbol.name root_outcome
+  pub log : EntryPoint M log_type (λ 𝓤 𝓛. log-log.clauses 𝓛) log-log-code.Symbol.code log-log-code.Symbol.name log_outcome
+  pub exp : EntryPoint M exp_type (λ 𝓤 𝓛. exp-exp.clauses 𝓛) exp-exp-code.Symbol.code exp-exp-code.Symbol.name exp_outcome
+  pub lnpdf : EntryPoint M lnpdf_type (λ 𝓤 𝓛. normal-lnpdf.clauses 𝓛) normal-lnpdf-code.Symbol.code normal-lnpdf-code.Symbol.name lnpdf_outcome
+  pub msar_root : EntryPoint M root_type (λ 𝓤 𝓛. c-root.clauses 𝓛) c-root-code.Symbol.code c-root-code.Symbol.name root_outcome
+  pub msar_log : EntryPoint M log_type (λ 𝓤 𝓛. c-log.clauses 𝓛) c-log-code.Symbol.code c-log-code.Symbol.name log_outcome
+  pub msar_exp : EntryPoint M exp_type (λ 𝓤 𝓛. c-exp.clauses 𝓛) c-exp-code.Symbol.code c-exp-code.Symbol.name exp_outcome
+  pub msar_lnpdf : EntryPoint M lnpdf_type (λ 𝓤 𝓛. c-lnpdf.clauses 𝓛) c-lnpdf-code.Symbol.code c-lnpdf-code.Symbol.name lnpdf_outcome
   -- numbers
-  pub pattern : EntryPoint M pattern_type number·pattern.clauses number·pattern.Symbol.routine pattern_outcome
-  pub of_pattern : EntryPoint M of_pattern_type number·of_pattern.clauses number·of_pattern.Symbol.routine of_pattern_outcome
-  pub magnitude : EntryPoint M magnitude_type number·magnitude.clauses number·magnitude.Symbol.routine magnitude_outcome
-  pub is_finite : EntryPoint M is_finite_type number·is_finite.clauses number·is_finite.Symbol.routine is_finite_outcome
-  pub is_usable : EntryPoint M is_usable_type number·is_usable.clauses number·is_usable.Symbol.routine is_usable_outcome
-  pub max : EntryPoint M max_type number·max.clauses number·max.Symbol.routine max_outcome
+  pub pattern : EntryPoint M pattern_type (λ 𝓤 𝓛. number-pattern.clauses 𝓛) number-pattern-code.Symbol.code number-pattern-code.Symbol.name pattern_outcome
+  pub of_pattern : EntryPoint M of_pattern_type (λ 𝓤 𝓛. number-of_pattern.clauses 𝓛) number-of_pattern-code.Symbol.code number-of_pattern-code.Symbol.name of_pattern_outcome
+  pub magnitude : EntryPoint M magnitude_type (λ 𝓤 𝓛. number-magnitude.clauses 𝓛) number-magnitude-code.Symbol.code number-magnitude-code.Symbol.name magnitude_outcome
+  pub is_finite : EntryPoint M is_finite_type (λ 𝓤 𝓛. number-is_finite.clauses 𝓛) number-is_finite-code.Symbol.code number-is_finite-code.Symbol.name is_finite_outcome
+  pub is_usable : EntryPoint M is_usable_type (λ 𝓤 𝓛. number-is_usable.clauses 𝓛) number-is_usable-code.Symbol.code number-is_usable-code.Symbol.name is_usable_outcome
+  pub max : EntryPoint M max_type (λ 𝓤 𝓛. number-max.clauses 𝓛) number-max-code.Symbol.code number-max-code.Symbol.name max_outcome
   -- decimals
-  pub read : EntryPoint M read_type text_decimal_read·read.clauses text_decimal_read·read.Symbol.routine read_outcome
-  pub write : EntryPoint M write_type text_decimal_write·write.clauses text_decimal_write·write.Symbol.routine write_outcome
+  pub read : EntryPoint M read_type (λ 𝓤 𝓛. text_decimal_read-read.clauses 𝓛) text_decimal_read-read-code.Symbol.code text_decimal_read-read-code.Symbol.name read_outcome
+  pub write : EntryPoint M write_type (λ 𝓤 𝓛. text_decimal_write-write.clauses 𝓛) text_decimal_write-write-code.Symbol.code text_decimal_write-write-code.Symbol.name write_outcome

@@ -1,5 +1,5 @@
 -- what is promised of an entry point
-pub mod Contracts
+pub mod Promised
 -- functions' types, as the source writes them
 pub mod Types
 -- the entry points, each with the outcome that it gives: the whole promise to a caller

@@ -8,22 +8,22 @@ use Rattle.std.specs.Borrow.{RattleType}
 use denote.Signature.{Slot, plain, named_lft}
 use denote.Triple.Clauses.{Ended}
 use denote.Triple.End.{all}
-use Rattle.refusal.specs.contracts.Check as refusal·Check
-use Rattle.refusal.specs.contracts.Refusal as refusal·Refusal
-use Rattle.spec.specs.contracts.MsarSpec as spec·MsarSpec
-use Rattle.spec.specs.contracts.Windows as spec·Windows
-use Rattle.linsolve.specs.contracts.Solution as linsolve·Solution
-use Rattle.params.specs.contracts.MsarParams as params·MsarParams
-use Rattle.params.specs.contracts.Built as params·Built
-use Rattle.params.specs.contracts.Durations as params·Durations
-use Rattle.stationary.specs.contracts.Shares as stationary·Shares
-use Rattle.binding.specs.contracts.Bound as binding·Bound
-use Rattle.filter.specs.contracts.Answer as filter·Answer
-use Rattle.fit.specs.contracts.Fitted as fit·Fitted
-use Rattle.record.specs.contracts.MarkovSwitchingAr as markov·MarkovSwitchingAr
-use Rattle.record.specs.contracts.Made as record·Made
-use Rattle.text_decimal_read.specs.contracts.Parsed as decimal·Parsed
-use Rattle.text_decimal_write.specs.contracts.Written as decimal·Written
+use Rattle.refusal.specs.contracts.Check as refusal-Check
+use Rattle.refusal.specs.contracts.Refusal as refusal-Refusal
+use Rattle.spec.specs.contracts.MsarSpec as spec-MsarSpec
+use Rattle.spec.specs.contracts.Windows as spec-Windows
+use Rattle.linsolve.specs.contracts.Solution as linsolve-Solution
+use Rattle.params.specs.contracts.MsarParams as params-MsarParams
+use Rattle.params.specs.contracts.Built as params-Built
+use Rattle.params.specs.contracts.Durations as params-Durations
+use Rattle.stationary.specs.contracts.Shares as stationary-Shares
+use Rattle.binding.specs.contracts.Bound as binding-Bound
+use Rattle.filter.specs.contracts.Answer as filter-Answer
+use Rattle.fit.specs.contracts.Fitted as fit-Fitted
+use Rattle.record.specs.contracts.MarkovSwitchingAr as markov-MarkovSwitchingAr
+use Rattle.record.specs.contracts.Made as record-Made
+use Rattle.text_decimal_read.specs.contracts.Parsed as decimal-Parsed
+use Rattle.text_decimal_write.specs.contracts.Written as decimal-Written
 
 -- a function with n lifetimes, these parameters and this result
 abbrev pub fn : (n : ℕ) → List (Slot n) → Slot n → Ended
@@ -65,51 +65,51 @@ module _ {n : ℕ} where
 
     -- MarkovSwitchingAr<'j> and Made<'j>, by value
     abbrev pub model : Slot n
-    model = plain (λ κs. markov·MarkovSwitchingAr.the_row (named_lft n j ok κs))
+    model = plain (λ κs. markov-MarkovSwitchingAr.the_row (named_lft n j ok κs))
 
     abbrev pub made : Slot n
-    made = plain (λ κs. record·Made.the_row (named_lft n j ok κs))
+    made = plain (λ κs. record-Made.the_row (named_lft n j ok κs))
 
 -- ---- the library's structs and enums
 
 abbrev pub Check : RattleType
-Check = refusal·Check.the_row
+Check = refusal-Check.the_row
 
 abbrev pub Refusal : RattleType
-Refusal = refusal·Refusal.the_row
+Refusal = refusal-Refusal.the_row
 
 abbrev pub MsarSpec : RattleType
-MsarSpec = spec·MsarSpec.the_row
+MsarSpec = spec-MsarSpec.the_row
 
 abbrev pub Windows : RattleType
-Windows = spec·Windows.the_row
+Windows = spec-Windows.the_row
 
 abbrev pub Solution : RattleType
-Solution = linsolve·Solution.the_row
+Solution = linsolve-Solution.the_row
 
 abbrev pub MsarParams : RattleType
-MsarParams = params·MsarParams.the_row
+MsarParams = params-MsarParams.the_row
 
 abbrev pub Built : RattleType
-Built = params·Built.the_row
+Built = params-Built.the_row
 
 abbrev pub Durations : RattleType
-Durations = params·Durations.the_row
+Durations = params-Durations.the_row
 
 abbrev pub Shares : RattleType
-Shares = stationary·Shares.the_row
+Shares = stationary-Shares.the_row
 
 abbrev pub Bound : RattleType
-Bound = binding·Bound.the_row
+Bound = binding-Bound.the_row
 
 abbrev pub Answer : RattleType
-Answer = filter·Answer.the_row
+Answer = filter-Answer.the_row
 
 abbrev pub Fitted : RattleType
-Fitted = fit·Fitted.the_row
+Fitted = fit-Fitted.the_row
 
 abbrev pub Parsed : RattleType
-Parsed = decimal·Parsed.the_row
+Parsed = decimal-Parsed.the_row
 
 abbrev pub Written : RattleType
-Written = decimal·Written.the_row
+Written = decimal-Written.the_row

@@ -11,6 +11,8 @@ use contract.Running.{Running}
 use prog.Memory.{Memory}
 use prog.Model.{Model}
 use prog.Routine.{Routine}
+use prog.Wired.{Code, Wired}
+use mir.Syntax.{Callee}
 use types.Logic.{Logic}
 use denote.Triple.Entry.{Args, Res}
 use denote.Triple.Clauses.{Ended, Clauses, Lasts, at_exit, closing}
@@ -55,12 +57,13 @@ giving 𝓤 T outcome κs a =
 abbrev pub Contract : Type 1 → Ended → Type 2
 Contract M T = (𝓤 : Ura M) → (𝓛 : Logic 𝓤) → (Memory → SProp 𝓤) → (Routine → Fun 𝓤) → Clauses 𝓤 T
 
--- what is promised of an entry point: T its type, as the statement names it, c its contract in the source, ρ its code
-pub record EntryPoint (M : Type 1) (T : Ended) (c : Contract M T) (ρ : Routine) (outcome : OutcomeOf T) : Type 2 where
+-- what is promised of an entry point: T its type, as the statement names it, c its contract in the source, code the code of it and of all that it
+-- calls, name the name that it has there
+pub record EntryPoint (M : Type 1) (T : Ended) (c : Contract M T) (code : Code) (name : Callee) (outcome : OutcomeOf T) : Type 2 where
   -- by the clauses in the source it asks nothing and gives the outcome
   pub exactly : (𝓤 : Ura M) (𝓛 : Logic 𝓤) (mem : Memory → SProp 𝓤) (run : Routine → Fun 𝓤) → Exactly 𝓤 T (c 𝓤 𝓛 mem run) outcome
   -- no second outcome satisfies them
   pub one_outcome : (𝓤 : Ura M) (𝓛 : Logic 𝓤) (mem : Memory → SProp 𝓤) (run : Routine → Fun 𝓤) → OneOutcome 𝓤 T (c 𝓤 𝓛 mem run)
-  -- and the code, called with what the types of its parameters own, returns with that outcome
+  -- and the code, wherever it is linked, called with what the types of its parameters own, returns with that outcome
   pub runs : (𝓤 : Ura M) (𝓛 : Logic 𝓤) (𝓜 : Model 𝓤 𝓛.H) (𝓡 : Running 𝓤 𝓛.H 𝓜)
-      → Meets 𝓛 T.signature (𝓡.run ρ) (closing 𝓛 T (giving 𝓤 T outcome))
+      → Wired 𝓡.env code → Meets 𝓛 T.signature (𝓡.run (𝓡.env name)) (closing 𝓛 T (giving 𝓤 T outcome))
