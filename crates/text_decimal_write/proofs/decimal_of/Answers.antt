@@ -1,4 +1,5 @@
 -- `text_decimal_write::decimal_of` meets its contract: the tens are as guessed where there are 17 digits before the point, and one more where
+-- there are 18.
 use Prim.Native.Nat.{ℕ, ◌*◌, ◌-◌, ◌^◌, ◌<◌, ◌≤◌}
 use mathlib.Core.Path.{sym, ap, subst, ◌∙◌}
 use native.Mathlib.Omega.{arith}

@@ -35,7 +35,7 @@ nonzero_rem-l c = (parted _ _ _ c.requires.0 c.requires.1 c.two_to-p.ensures c.r
 pub returns-then-l-i-ne0 : goal.returns-then-l-i-ne0
 returns-then-l-i-ne0 c =
     let k = parted _ _ _ c.requires.0 c.requires.1 c.two_to-p.ensures c.requires.2 in
-    (k.whole, k.some c.if-l-i-ne0.true)
+    (k.whole, k.some (λ z. absurd (omega (arith, c.if-l-i-ne0.true, z))))
 
 pub returns : goal.returns
 returns c =
