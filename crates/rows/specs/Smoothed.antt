@@ -1,6 +1,6 @@
 -- The places of the smoothed table, over which the EM step sums: row i of m windows has its weights at places i·m, .., i·m + m - 1.
 -- After Hamilton (1990), Kim and Nelson (1999), 4.3, and document 01, "EM step".
-use Rattle.std.specs.Prelude.{ℕ, suc, ◌-◌, ◌*◌, ◌/◌, ◌%◌, ◌^◌, Bool, List, drop, Float}
+use Rattle.std.specs.Prelude.{ℕ, suc, ◌-◌, ◌*◌, ◌/◌, ◌%◌, Bool, List, drop, Float}
 use Rattle.std.specs.Float.Ieee.{ne}
 use Rattle.number.specs.Number.{◌⊖◌, ◌⊘◌, zero⁺}
 use Rattle.number.specs.Table.{◌!◌}

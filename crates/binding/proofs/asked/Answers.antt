@@ -1,5 +1,4 @@
 -- `asked` meets its contract: the rule, then the parameters.
-use borrow.Author.Rules.{rules}
 use Rattle.binding.proofs.asked.Goals as goal
 
 pub returns : goal.returns

@@ -1,8 +1,7 @@
 -- `bind` meets its contract: the spec, the series, and the counts that follow from both.
-use Prim.Native.Nat.{◌<◌, suc, ◌-◌, ◌^◌}
+use Prim.Native.Nat.{◌<◌, suc, ◌^◌}
 use mathlib.Core.Path.{◌≡◌, sym, ◌∙◌}
 use native.Mathlib.Omega.{arith}
-use borrow.Author.Rules.{rules}
 use Rattle.spec.specs.Spec.{spec_check, window_count}
 use Rattle.refusal.specs.declared.Check.TheVariants.{Passed}
 use Rattle.window.proofs.Shape.{order_at_most_7}

@@ -1,5 +1,4 @@
 -- `length_check` meets its contract: its tests are the definition's.
-use borrow.Author.Rules.{rules}
 use borrow.Author.Tests.{lt-ltb, le-ltb, le-leb, lt-leb}
 use Rattle.binding.specs.Binding.{length_check}
 use Rattle.binding.proofs.length_check.Goals as goal

@@ -1,5 +1,4 @@
 -- `memory` meets its contract: its test is the definition's.
-use Prim.Native.Nat.{◌-◌}
 use borrow.Author.Tests.{lt-ltb, le-ltb}
 use Rattle.binding.proofs.memory.Goals as goal
 

@@ -1,6 +1,4 @@
 -- `parameters` meets its contract: the parameter checks, then 20.
-use Prim.Native.Nat.{◌-◌}
-use borrow.Author.Rules.{rules}
 use Rattle.binding.specs.Binding.{params_check}
 use Rattle.binding.proofs.parameters.Goals as goal
 

@@ -2,7 +2,6 @@
 use mathlib.Core.Path.{◌≡◌, refl}
 use mathlib.Core.List.{List}
 use Prim.Native.Nat.{ℕ, ◌≤◌, ◌<◌}
-use borrow.Author.Rules.{rules}
 use lib.Ieee.{Float}
 use Rattle.number.specs.Table.{◌!◌}
 use Rattle.number.specs.Tests.{holds, first_not}

@@ -1,6 +1,5 @@
 -- `series` meets its contract: the length first, then the readings.
 use mathlib.Core.Path.{sym, ◌∙◌}
-use borrow.Author.Rules.{rules}
 use Rattle.binding.proofs.series.Goals as goal
 
 pub returns-in-Failed : goal.returns-in-Failed

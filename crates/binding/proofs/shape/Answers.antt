@@ -1,6 +1,4 @@
 -- `shape` meets its contract: 20 where the record does not match the spec.
-use Prim.Native.Nat.{◌-◌}
-use borrow.Author.Rules.{rules}
 use Rattle.binding.proofs.shape.Goals as goal
 
 pub returns-then-matches_spec : goal.returns-then-matches_spec

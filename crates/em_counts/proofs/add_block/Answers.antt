@@ -1,11 +1,10 @@
-use Prim.Native.Nat.{◌+◌, ◌*◌, ◌-◌, ◌<◌, ◌≤◌}
+use Prim.Native.Nat.{◌+◌, ◌*◌, ◌<◌}
 use mathlib.Core.Path.{◌≡◌}
 use native.Mathlib.Nat.{add-zero, add_assoc}
 use native.Mathlib.Omega.{arith}
-use borrow.Author.Rules.{rules, scaled_Fits}
+use borrow.Author.Rules.{scaled_Fits}
 use lib.ListN.{length}
 use Rattle.number.proofs.Table.{cell_below}
-use Rattle.em_counts.specs.Steps.{Counted}
 use Rattle.em_counts.proofs.Counting.{counts_long, columns_long, block_more}
 use Rattle.em_counts.proofs.add_block.Goals.{In-loop-s}
 use Rattle.em_counts.proofs.add_block.Goals as goal

@@ -1,13 +1,6 @@
 -- A block of k places is counted, place by place.
-use Prim.Native.Nat.{◌+◌, ◌*◌, ◌-◌, ◌<◌, ◌≤◌}
-use mathlib.Core.Path.{◌≡◌}
-use native.Mathlib.Nat.{add-zero, add_assoc}
-use native.Mathlib.Omega.{arith}
-use borrow.Author.Rules.{rules, scaled_Fits}
-use lib.ListN.{length}
-use Rattle.number.proofs.Table.{cell_below}
+use Prim.Native.Nat.{◌+◌, ◌*◌, ◌≤◌}
 use Rattle.em_counts.specs.Steps.{Counted}
-use Rattle.em_counts.proofs.Counting.{counts_long, columns_long, block_more}
 use Rattle.em_counts.proofs.add_block.Given as goal
 
 abbrev pub invariant-loop-s : goal.invariant-loop-s

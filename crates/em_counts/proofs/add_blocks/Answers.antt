@@ -1,11 +1,9 @@
-use Prim.Native.Nat.{◌*◌, ◌-◌, ◌%◌, ◌<◌, ◌≤◌}
+use Prim.Native.Nat.{◌<◌}
 use mathlib.Core.Path.{◌≡◌, sym}
 use native.Mathlib.Numerals.{add-one}
 use native.Mathlib.Nat.{zero-mod, zero-mul, mod-lt, suc-mul}
 use native.Mathlib.Omega.{arith}
-use borrow.Author.Rules.{rules}
 use Rattle.number.proofs.Table.{row_before}
-use Rattle.em_counts.specs.Steps.{Counted}
 use Rattle.em_counts.proofs.add_blocks.Goals.{In-loop-c}
 use Rattle.em_counts.proofs.add_blocks.Goals as goal
 

@@ -1,5 +1,4 @@
 -- A cell over its column, or the old one.
-use borrow.Author.Rules.{rules}
 use Rattle.em_counts.proofs.Dividing.{kept, quotient}
 use Rattle.em_counts.proofs.divided.Goals as goal
 

@@ -1,7 +1,6 @@
 -- The new table: all places counted, then divided cell by cell.
 use native.Mathlib.Nat.{mul-le-mul}
 use native.Mathlib.Omega.{arith}
-use borrow.Author.Rules.{rules}
 use Rattle.em_counts.proofs.Dividing.{table_by}
 use Rattle.em_counts.proofs.Counting.{counted_none}
 use Rattle.em_counts.proofs.new_transition.Goals as goal

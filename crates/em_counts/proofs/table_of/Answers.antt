@@ -1,13 +1,9 @@
-use Prim.Native.Nat.{◌*◌, ◌-◌, ◌%◌, ◌<◌, ◌≤◌}
+use Prim.Native.Nat.{◌*◌, ◌<◌}
 use mathlib.Core.Path.{◌≡◌, refl, sym}
 use native.Mathlib.Nat.{zero-mod, mod-lt}
 use native.Mathlib.Omega.{arith}
-use lib.ListN.{replicate}
 use Rattle.em_counts.proofs.Counting.{square_within}
-use Rattle.em_counts.specs.Steps.{divided_at}
 use Rattle.number.proofs.Table.{fill_at_none, fill_more}
-use Rattle.number.specs.Table.{fill_at}
-use Rattle.number.specs.Number.{zero⁺}
 use Rattle.em_counts.proofs.table_of.Goals.{In-loop-e}
 use Rattle.em_counts.proofs.table_of.Goals as goal
 

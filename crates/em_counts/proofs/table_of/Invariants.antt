@@ -1,12 +1,8 @@
 -- The cells of the new table, one after another.
-use Prim.Native.Nat.{◌*◌, ◌-◌, ◌%◌, ◌<◌, ◌≤◌}
-use mathlib.Core.Path.{◌≡◌, refl, sym}
-use native.Mathlib.Nat.{zero-mod, mod-lt}
-use native.Mathlib.Omega.{arith}
+use Prim.Native.Nat.{◌*◌, ◌%◌, ◌≤◌}
+use mathlib.Core.Path.{◌≡◌}
 use lib.ListN.{replicate}
-use Rattle.em_counts.proofs.Counting.{square_within}
 use Rattle.em_counts.specs.Steps.{divided_at}
-use Rattle.number.proofs.Table.{fill_at_none, fill_more}
 use Rattle.number.specs.Table.{fill_at}
 use Rattle.number.specs.Number.{zero⁺}
 use Rattle.em_counts.proofs.table_of.Given as goal

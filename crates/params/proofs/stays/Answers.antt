@@ -1,11 +1,6 @@
 use mathlib.Core.Path.{◌≡◌}
-use Prim.Native.Nat.{◌-◌, ◌≤◌}
 use native.Mathlib.Omega.{arith}
-use borrow.Author.Rules.{rules}
-use lib.ListN.{replicate}
 use Rattle.number.proofs.Table.{fill_at_none, fill_more}
-use Rattle.number.specs.Table.{fill_at}
-use Rattle.number.specs.Number.{zero⁺}
 use Rattle.params.specs.Durations.{duration}
 use Rattle.params.proofs.stays.Goals as goal
 

@@ -1,10 +1,7 @@
 -- `stays`: so far the durations of i labels, +0 in the other places.
 use mathlib.Core.Path.{◌≡◌}
-use Prim.Native.Nat.{◌-◌, ◌≤◌}
-use native.Mathlib.Omega.{arith}
-use borrow.Author.Rules.{rules}
+use Prim.Native.Nat.{◌≤◌}
 use lib.ListN.{replicate}
-use Rattle.number.proofs.Table.{fill_at_none, fill_more}
 use Rattle.number.specs.Table.{fill_at}
 use Rattle.number.specs.Number.{zero⁺}
 use Rattle.params.specs.Durations.{duration}

@@ -1,14 +1,9 @@
 -- The first prediction of a window, step by step.
-use Prim.Native.Nat.{suc, ◌*◌, ◌+◌, ◌/◌, ◌%◌, ◌^◌, ◌-◌, ◌<◌, ◌≤◌}
+use Prim.Native.Nat.{suc, ◌/◌, ◌^◌, ◌-◌, ◌≤◌}
 use mathlib.Core.Path.{◌≡◌}
-use native.Mathlib.Omega.{arith}
-use borrow.Author.Rules.{rules}
 use Rattle.window.specs.Windows.{labels}
-use Rattle.window.proofs.Arithmetic.{divided_none, divided_more, k_positive, label_is}
 use Rattle.params.specs.declared.MsarParams.{MsarParams}
 use Rattle.prediction.specs.Prediction.{first_to}
-use Rattle.prediction.proofs.Places.{steps_below}
-use Rattle.prediction.proofs.Turns.{label_small, first_none, first_more, first_all}
 use Rattle.prediction.proofs.first_of.Given as goal
 
 abbrev pub invariant-loop : goal.invariant-loop

@@ -1,6 +1,5 @@
 -- `later_row` meets its contract: the row of the rule at this order.
 use mathlib.Core.Path.{sym, ◌∙◌}
-use borrow.Author.Rules.{rules}
 use Rattle.prediction.proofs.Rules.{row_mixed, row_stepped}
 use Rattle.prediction.proofs.later_row.Goals as goal
 

@@ -1,14 +1,9 @@
 -- The sum over the label before, from 0 up.
-use Prim.Native.Nat.{◌+◌, ◌*◌, ◌-◌, ◌<◌, ◌≤◌}
+use Prim.Native.Nat.{◌≤◌}
 use mathlib.Core.Path.{◌≡◌}
-use native.Mathlib.Omega.{arith}
-use borrow.Author.Rules.{rules}
 use Rattle.number.specs.Number.{◌⊗◌}
 use Rattle.number.specs.Sums.{sum_up}
 use Rattle.number.specs.Table.{◌!◌, cell}
-use Rattle.number.proofs.Sums.{sum_none, sum_more}
-use Rattle.prediction.specs.Steps.{mixed_at}
-use Rattle.prediction.proofs.Places.{cells_below}
 use Rattle.prediction.proofs.mixed_of.Given as goal
 
 abbrev pub invariant-loop-x : goal.invariant-loop-x

@@ -1,11 +1,7 @@
-use Prim.Native.Nat.{◌-◌, ◌≤◌}
 use mathlib.Core.Path.{◌≡◌, refl}
 use native.Mathlib.Omega.{arith}
-use borrow.Author.Rules.{rules}
-use lib.ListN.{length-set, length}
-use Rattle.number.specs.Table.{fill_at}
+use lib.ListN.{length-set}
 use Rattle.number.proofs.Table.{fill_at_none, fill_more}
-use Rattle.prediction.specs.Steps.{mixed_at}
 use Rattle.prediction.proofs.mixed_row.Goals as goal
 
 pub loop-s-init : goal.loop-s-init

@@ -1,11 +1,8 @@
 -- The row by the sums over the label before, label by label.
-use Prim.Native.Nat.{◌-◌, ◌≤◌}
-use mathlib.Core.Path.{◌≡◌, refl}
-use native.Mathlib.Omega.{arith}
-use borrow.Author.Rules.{rules}
-use lib.ListN.{length-set, length}
+use Prim.Native.Nat.{◌≤◌}
+use mathlib.Core.Path.{◌≡◌}
+use lib.ListN.{length}
 use Rattle.number.specs.Table.{fill_at}
-use Rattle.number.proofs.Table.{fill_at_none, fill_more}
 use Rattle.prediction.specs.Steps.{mixed_at}
 use Rattle.prediction.proofs.mixed_row.Given as goal
 

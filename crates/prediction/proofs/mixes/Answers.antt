@@ -1,5 +1,4 @@
 -- `mixes`: by rule 2, at order zero.
-use borrow.Author.Rules.{rules}
 use Rattle.prediction.specs.Prediction.{mixes}
 use Rattle.prediction.proofs.mixes.Goals as goal
 

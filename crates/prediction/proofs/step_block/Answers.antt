@@ -1,10 +1,6 @@
-use Prim.Native.Nat.{◌+◌, ◌-◌, ◌≤◌}
 use mathlib.Core.Path.{◌≡◌, refl}
 use native.Mathlib.Omega.{arith}
-use borrow.Author.Rules.{rules}
-use lib.ListN.{length-set, length}
-use Rattle.number.specs.Number.{◌⊗◌}
-use Rattle.number.specs.Table.{◌!◌, fill_at}
+use lib.ListN.{length-set}
 use Rattle.number.proofs.Table.{fill_at_none, fill_at_more}
 use Rattle.prediction.proofs.step_block.Goals as goal
 

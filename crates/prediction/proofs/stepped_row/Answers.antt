@@ -1,12 +1,8 @@
-use Prim.Native.Nat.{◌+◌, ◌*◌, ◌-◌, ◌≤◌}
+use Prim.Native.Nat.{◌+◌, ◌*◌, ◌≤◌}
 use mathlib.Core.Path.{◌≡◌, refl, ◌∙◌}
 use native.Mathlib.Nat.{zero-mul, mul_comm}
 use native.Mathlib.Omega.{arith}
-use borrow.Author.Rules.{rules}
-use lib.ListN.{length}
-use Rattle.number.specs.Table.{fill_at}
 use Rattle.number.proofs.Table.{fill_at_none, fill_at_long}
-use Rattle.prediction.specs.Steps.{stepped_at}
 use Rattle.prediction.proofs.Places.{block_within}
 use Rattle.prediction.proofs.Turns.{stepped_more}
 use Rattle.prediction.proofs.stepped_row.Goals.{After-sum_before-sum}

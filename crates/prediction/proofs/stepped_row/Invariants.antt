@@ -1,15 +1,9 @@
 -- A later prediction, block by block of the windows that share a sum.
-use Prim.Native.Nat.{◌+◌, ◌*◌, ◌-◌, ◌≤◌}
-use mathlib.Core.Path.{◌≡◌, refl, ◌∙◌}
-use native.Mathlib.Nat.{zero-mul, mul_comm}
-use native.Mathlib.Omega.{arith}
-use borrow.Author.Rules.{rules}
+use Prim.Native.Nat.{◌*◌, ◌≤◌}
+use mathlib.Core.Path.{◌≡◌}
 use lib.ListN.{length}
 use Rattle.number.specs.Table.{fill_at}
-use Rattle.number.proofs.Table.{fill_at_none, fill_at_long}
 use Rattle.prediction.specs.Steps.{stepped_at}
-use Rattle.prediction.proofs.Places.{block_within}
-use Rattle.prediction.proofs.Turns.{stepped_more}
 use Rattle.prediction.proofs.stepped_row.Given as goal
 
 abbrev pub invariant-loop-c : goal.invariant-loop-c

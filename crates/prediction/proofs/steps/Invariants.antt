@@ -1,15 +1,10 @@
 -- The steps into the windows, window by window.
-use Prim.Native.Nat.{◌-◌, ◌≤◌}
-use mathlib.Core.Path.{◌≡◌, refl}
-use native.Mathlib.Omega.{arith}
-use borrow.Author.Rules.{rules}
+use Prim.Native.Nat.{◌≤◌}
+use mathlib.Core.Path.{◌≡◌}
 use lib.ListN.{replicate}
 use Rattle.number.specs.Number.{zero⁺}
 use Rattle.number.specs.Table.{fill_at}
-use Rattle.number.proofs.Table.{fill_at_none, fill_more}
 use Rattle.prediction.specs.Steps.{step_at}
-use Rattle.prediction.proofs.Places.{steps_below}
-use Rattle.prediction.proofs.Turns.{step_is}
 use Rattle.prediction.proofs.steps.Given as goal
 
 abbrev pub invariant-loop-a : goal.invariant-loop-a

@@ -1,9 +1,6 @@
-use Prim.Native.Nat.{◌+◌, ◌*◌, ◌-◌, ◌<◌, ◌≤◌}
+use Prim.Native.Nat.{◌+◌, ◌*◌, ◌<◌}
 use mathlib.Core.Path.{◌≡◌}
 use native.Mathlib.Omega.{arith}
-use borrow.Author.Rules.{rules}
-use Rattle.number.specs.Sums.{sum_up}
-use Rattle.number.specs.Table.{◌!◌}
 use Rattle.number.proofs.Sums.{sum_none, sum_more}
 use Rattle.prediction.specs.Steps.{sum_before}
 use Rattle.prediction.proofs.Places.{windows_below}

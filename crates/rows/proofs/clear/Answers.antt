@@ -1,10 +1,6 @@
-use Prim.Native.Nat.{◌-◌, ◌≤◌}
 use mathlib.Core.Path.{◌≡◌, refl}
 use native.Mathlib.Omega.{arith}
-use borrow.Author.Rules.{rules}
-use lib.ListN.{length, length-set}
-use Rattle.number.specs.Number.{zero⁺}
-use Rattle.number.specs.Table.{fill_at}
+use lib.ListN.{length-set}
 use Rattle.number.proofs.Table.{fill_at_none, fill_more}
 use Rattle.rows.proofs.clear.Goals as goal
 

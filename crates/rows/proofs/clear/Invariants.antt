@@ -1,12 +1,9 @@
 -- `clear` meets its contract: +0, place by place.
-use Prim.Native.Nat.{◌-◌, ◌≤◌}
-use mathlib.Core.Path.{◌≡◌, refl}
-use native.Mathlib.Omega.{arith}
-use borrow.Author.Rules.{rules}
-use lib.ListN.{length, length-set}
+use Prim.Native.Nat.{◌≤◌}
+use mathlib.Core.Path.{◌≡◌}
+use lib.ListN.{length}
 use Rattle.number.specs.Number.{zero⁺}
 use Rattle.number.specs.Table.{fill_at}
-use Rattle.number.proofs.Table.{fill_at_none, fill_more}
 use Rattle.rows.proofs.clear.Given as goal
 
 abbrev pub invariant-loop-i : goal.invariant-loop-i

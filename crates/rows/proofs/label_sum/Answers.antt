@@ -1,8 +1,8 @@
-use Prim.Native.Nat.{◌+◌, ◌*◌, ◌<◌, ◌-◌, ◌≤◌}
+use Prim.Native.Nat.{◌+◌, ◌*◌, ◌<◌}
 use mathlib.Core.Path.{◌≡◌}
 use native.Mathlib.Omega.{arith}
-use borrow.Author.Rules.{rules, scaled_Fits}
-use lib.ListN.{length, drop}
+use borrow.Author.Rules.{scaled_Fits}
+use lib.ListN.{length}
 use Rattle.number.proofs.Sums.{sum_none, sum_next}
 use Rattle.rows.specs.Steps.{label_sum}
 use Rattle.rows.proofs.Places.{window_within, window_place}

@@ -1,12 +1,8 @@
 -- `label_sum` meets its contract: the sum upward over the windows with one label now.
-use Prim.Native.Nat.{◌+◌, ◌*◌, ◌<◌, ◌-◌, ◌≤◌}
+use Prim.Native.Nat.{◌≤◌}
 use mathlib.Core.Path.{◌≡◌}
-use native.Mathlib.Omega.{arith}
-use borrow.Author.Rules.{rules, scaled_Fits}
-use lib.ListN.{length, drop}
-use Rattle.number.proofs.Sums.{sum_none, sum_next}
+use lib.ListN.{drop}
 use Rattle.rows.specs.Steps.{label_sum}
-use Rattle.rows.proofs.Places.{window_within, window_place}
 use Rattle.rows.proofs.label_sum.Given as goal
 
 abbrev pub invariant-loop-j : goal.invariant-loop-j

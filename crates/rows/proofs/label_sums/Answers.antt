@@ -1,12 +1,7 @@
-use Prim.Native.Nat.{◌-◌, ◌≤◌}
 use mathlib.Core.Path.{◌≡◌, refl}
 use native.Mathlib.Omega.{arith}
-use borrow.Author.Rules.{rules}
-use lib.ListN.{length, drop}
-use Rattle.number.specs.Table.{fill_at}
 use Rattle.number.proofs.Table.{fill_at_none, fill_at_more}
 use lib.ListN.{length-set}
-use Rattle.rows.specs.Steps.{label_sum}
 use Rattle.rows.proofs.label_sums.Goals as goal
 
 pub loop-i-init : goal.loop-i-init

@@ -1,12 +1,8 @@
 -- `label_sums` meets its contract: the probabilities of the labels of one row, place by place.
-use Prim.Native.Nat.{◌-◌, ◌≤◌}
-use mathlib.Core.Path.{◌≡◌, refl}
-use native.Mathlib.Omega.{arith}
-use borrow.Author.Rules.{rules}
+use Prim.Native.Nat.{◌≤◌}
+use mathlib.Core.Path.{◌≡◌}
 use lib.ListN.{length, drop}
 use Rattle.number.specs.Table.{fill_at}
-use Rattle.number.proofs.Table.{fill_at_none, fill_at_more}
-use lib.ListN.{length-set}
 use Rattle.rows.specs.Steps.{label_sum}
 use Rattle.rows.proofs.label_sums.Given as goal
 

@@ -1,13 +1,10 @@
-use Prim.Native.Nat.{◌+◌, ◌*◌, ◌-◌, ◌≤◌}
+use Prim.Native.Nat.{◌+◌, ◌*◌, ◌≤◌}
 use mathlib.Core.Path.{◌≡◌, refl, ◌∙◌}
 use native.Mathlib.Nat.{zero-mul, suc-mul}
 use native.Mathlib.Numerals.{add-one}
 use native.Mathlib.Omega.{arith}
-use borrow.Author.Rules.{rules}
 use lib.ListN.{length}
-use Rattle.number.specs.Table.{fill_at}
 use Rattle.number.proofs.Table.{fill_at_none, fill_at_long, fill_join, row_before}
-use Rattle.rows.specs.Steps.{label_sum_at}
 use Rattle.rows.proofs.Places.{results_of_row}
 use Rattle.rows.proofs.tabulate.Goals.{In-loop-i}
 use Rattle.rows.proofs.tabulate.Goals as goal

@@ -1,11 +1,7 @@
-use Prim.Native.Nat.{◌-◌, ◌≤◌}
 use mathlib.Core.Path.{◌≡◌, refl}
 use native.Mathlib.Omega.{arith}
-use borrow.Author.Rules.{rules}
-use lib.ListN.{length-set, length, drop}
+use lib.ListN.{length-set}
 use Rattle.number.proofs.Table.{fill_at_none, fill_at_more}
-use Rattle.number.specs.Table.{fill_at}
-use Rattle.smoother.specs.Steps.{scaled_at}
 use Rattle.smoother.proofs.Scaled.{scaled_here}
 use Rattle.smoother.proofs.scale_block.Goals as goal
 

@@ -1,13 +1,9 @@
 -- `scale_block` meets its contract: a block times the sums, place by place.
-use Prim.Native.Nat.{◌-◌, ◌≤◌}
-use mathlib.Core.Path.{◌≡◌, refl}
-use native.Mathlib.Omega.{arith}
-use borrow.Author.Rules.{rules}
-use lib.ListN.{length-set, length, drop}
-use Rattle.number.proofs.Table.{fill_at_none, fill_at_more}
+use Prim.Native.Nat.{◌≤◌}
+use mathlib.Core.Path.{◌≡◌}
+use lib.ListN.{length, drop}
 use Rattle.number.specs.Table.{fill_at}
 use Rattle.smoother.specs.Steps.{scaled_at}
-use Rattle.smoother.proofs.Scaled.{scaled_here}
 use Rattle.smoother.proofs.scale_block.Given as goal
 
 abbrev pub invariant-loop-c : goal.invariant-loop-c

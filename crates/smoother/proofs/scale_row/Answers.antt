@@ -1,12 +1,9 @@
-use Prim.Native.Nat.{◌+◌, ◌*◌, ◌-◌, ◌≤◌}
+use Prim.Native.Nat.{◌+◌, ◌*◌, ◌≤◌}
 use mathlib.Core.Path.{◌≡◌, refl, ◌∙◌}
 use native.Mathlib.Nat.{zero-mul}
 use native.Mathlib.Omega.{arith}
-use borrow.Author.Rules.{rules}
-use lib.ListN.{length, drop}
+use lib.ListN.{length}
 use Rattle.number.proofs.Table.{fill_at_none, fill_at_long, row_before}
-use Rattle.number.specs.Table.{fill_at}
-use Rattle.smoother.specs.Steps.{blockwise}
 use Rattle.smoother.proofs.Scaled.{block_more}
 use Rattle.smoother.proofs.scale_row.Goals.{In-loop-x}
 use Rattle.smoother.proofs.scale_row.Goals as goal

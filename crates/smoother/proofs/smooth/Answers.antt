@@ -1,11 +1,10 @@
 use Prim.Native.Nat.{ℕ, ◌+◌, ◌*◌, ◌-◌, ◌<◌, ◌≤◌}
 use mathlib.Core.Path.{◌≡◌, refl}
 use native.Mathlib.Omega.{arith}
-use borrow.Author.Rules.{rules}
 use lib.ListN.{length}
 use Rattle.smoother.specs.Steps.{Sharing}
 use Rattle.smoother.proofs.Common.{power_above}
-use Rattle.smoother.proofs.Back.{Back, windows, back_first, back_last, back_step, within}
+use Rattle.smoother.proofs.Back.{windows, back_first, back_last, back_step, within}
 use Rattle.smoother.proofs.smooth.Goals.{After-sharing-shared, In-loop-i, Start}
 use Rattle.smoother.proofs.smooth.Goals as goal
 

@@ -1,12 +1,8 @@
 -- `smooth` meets its contract: the loop goes back over the rows as Back.antt says.
-use Prim.Native.Nat.{ℕ, ◌+◌, ◌*◌, ◌-◌, ◌<◌, ◌≤◌}
-use mathlib.Core.Path.{◌≡◌, refl}
-use native.Mathlib.Omega.{arith}
-use borrow.Author.Rules.{rules}
+use Prim.Native.Nat.{◌<◌}
+use mathlib.Core.Path.{◌≡◌}
 use lib.ListN.{length}
-use Rattle.smoother.specs.Steps.{Sharing}
-use Rattle.smoother.proofs.Common.{power_above}
-use Rattle.smoother.proofs.Back.{Back, windows, back_first, back_last, back_step, within}
+use Rattle.smoother.proofs.Back.{Back}
 use Rattle.smoother.proofs.smooth.Given as goal
 
 abbrev pub invariant-loop-i : goal.invariant-loop-i

@@ -1,12 +1,9 @@
-use Prim.Native.Nat.{◌+◌, ◌*◌, ◌-◌, ◌<◌, ◌≤◌}
+use Prim.Native.Nat.{◌+◌, ◌*◌, ◌<◌}
 use mathlib.Core.Path.{◌≡◌, ◌∙◌}
 use native.Mathlib.Omega.{arith}
-use borrow.Author.Rules.{rules}
-use lib.ListN.{drop}
 use Rattle.number.proofs.Table.{cell_below}
 use Rattle.number.proofs.Sums.{where_none}
-use Rattle.number.specs.Sums.{sum_where}
-use Rattle.smoother.specs.Steps.{seen_at, term_at, sum_after}
+use Rattle.smoother.specs.Steps.{sum_after}
 use Rattle.smoother.proofs.After.{term_added, term_skipped}
 use Rattle.smoother.proofs.sum_after.Goals.{In-loop-r}
 use Rattle.smoother.proofs.sum_after.Goals.{then-d, else-d}

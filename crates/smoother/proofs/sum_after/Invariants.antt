@@ -1,15 +1,9 @@
 -- `sum_after` meets its contract: the sum over the successors, one term further at each turn.
-use Prim.Native.Nat.{◌+◌, ◌*◌, ◌-◌, ◌<◌, ◌≤◌}
-use mathlib.Core.Logic.{⊎_elim}
-use mathlib.Core.Path.{◌≡◌, ◌∙◌}
-use native.Mathlib.Omega.{arith}
-use borrow.Author.Rules.{rules}
+use Prim.Native.Nat.{◌≤◌}
+use mathlib.Core.Path.{◌≡◌}
 use lib.ListN.{drop}
-use Rattle.number.proofs.Table.{cell_below}
-use Rattle.number.proofs.Sums.{where_none}
 use Rattle.number.specs.Sums.{sum_where}
-use Rattle.smoother.specs.Steps.{seen_at, term_at, sum_after}
-use Rattle.smoother.proofs.After.{term_added, term_skipped}
+use Rattle.smoother.specs.Steps.{seen_at, term_at}
 use Rattle.smoother.proofs.sum_after.Given as goal
 
 abbrev pub invariant-loop-r : goal.invariant-loop-r

@@ -1,12 +1,9 @@
-use Prim.Native.Nat.{◌+◌, ◌*◌, ◌-◌, ◌%◌, ◌<◌, ◌≤◌}
+use Prim.Native.Nat.{◌+◌, ◌*◌, ◌<◌, ◌≤◌}
 use mathlib.Core.Path.{◌≡◌, refl, sym}
 use native.Mathlib.Nat.{zero-mod, mod-lt}
 use native.Mathlib.Omega.{arith}
-use borrow.Author.Rules.{rules}
-use lib.ListN.{length-set, length, drop}
+use lib.ListN.{length-set, length}
 use Rattle.number.proofs.Table.{fill_at_none, fill_more}
-use Rattle.number.specs.Table.{fill_at}
-use Rattle.smoother.specs.Steps.{shared_sum}
 use Rattle.smoother.proofs.Common.{sum_of_label}
 use Rattle.smoother.proofs.sums_after.Goals.{In-loop-c}
 use Rattle.smoother.proofs.sums_after.Goals as goal

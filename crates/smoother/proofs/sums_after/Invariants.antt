@@ -1,14 +1,9 @@
 -- `sums_after` meets its contract: the shared sums, one after another.
-use Prim.Native.Nat.{◌+◌, ◌*◌, ◌-◌, ◌%◌, ◌<◌, ◌≤◌}
-use mathlib.Core.Path.{◌≡◌, refl, sym}
-use native.Mathlib.Nat.{zero-mod, mod-lt}
-use native.Mathlib.Omega.{arith}
-use borrow.Author.Rules.{rules}
-use lib.ListN.{length-set, length, drop}
-use Rattle.number.proofs.Table.{fill_at_none, fill_more}
+use Prim.Native.Nat.{◌%◌, ◌≤◌}
+use mathlib.Core.Path.{◌≡◌}
+use lib.ListN.{length, drop}
 use Rattle.number.specs.Table.{fill_at}
 use Rattle.smoother.specs.Steps.{shared_sum}
-use Rattle.smoother.proofs.Common.{sum_of_label}
 use Rattle.smoother.proofs.sums_after.Given as goal
 
 abbrev pub invariant-loop-c : goal.invariant-loop-c

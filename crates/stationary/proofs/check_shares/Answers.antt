@@ -1,11 +1,6 @@
 use mathlib.Core.Path.{◌≡◌, sym}
-use Prim.Native.Nat.{◌-◌, ◌≤◌}
 use native.Mathlib.Omega.{arith}
-use borrow.Author.Rules.{rules}
-use Rattle.refusal.specs.Checks.{each}
-use Rattle.refusal.specs.declared.Check.TheVariants.{Passed}
 use Rattle.refusal.proofs.Each.{each_none, each_more, each_found}
-use Rattle.stationary.specs.Stationary.{share_check}
 use Rattle.stationary.proofs.OneShare.{share_not_finite, share_below, share_passes}
 use mathlib.Core.Path.{ap}
 use mathlib.Core.Bool.{not}

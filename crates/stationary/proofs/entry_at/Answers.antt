@@ -1,7 +1,6 @@
 -- `entry_at` meets its contract: ones in the last row, else I - P.
 use native.Mathlib.Nat.{div-le_self}
 use native.Mathlib.Omega.{arith}
-use borrow.Author.Rules.{rules}
 use Rattle.stationary.proofs.Entries.{in_last_row, on_diagonal, off_diagonal}
 use Rattle.stationary.proofs.entry_at.Goals as goal
 

@@ -1,5 +1,4 @@
 -- `side_at` meets its contract: one in the last row, else +0.
-use borrow.Author.Rules.{rules}
 use Rattle.stationary.proofs.Entries.{last_side, other_side}
 use Rattle.stationary.proofs.side_at.Goals as goal
 

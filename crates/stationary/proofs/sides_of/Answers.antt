@@ -1,12 +1,7 @@
 use mathlib.Core.Path.{◌≡◌}
 use native.Mathlib.Omega.{arith}
-use borrow.Author.Rules.{rules}
-use Prim.Native.Nat.{◌-◌, ◌≤◌}
-use lib.ListN.{replicate}
-use Rattle.number.specs.Number.{zero⁺}
-use Rattle.number.specs.Table.{fill_at}
 use Rattle.number.proofs.Table.{fill_at_none, fill_more}
-use Rattle.stationary.specs.Stationary.{side, share_sides}
+use Rattle.stationary.specs.Stationary.{share_sides}
 use Rattle.stationary.proofs.sides_of.Goals as goal
 
 pub loop-i-init : goal.loop-i-init

@@ -1,13 +1,10 @@
 -- `sides_of` meets its contract: the right sides, place by place.
 use mathlib.Core.Path.{◌≡◌}
-use native.Mathlib.Omega.{arith}
-use borrow.Author.Rules.{rules}
 use Prim.Native.Nat.{◌-◌, ◌≤◌}
 use lib.ListN.{replicate}
 use Rattle.number.specs.Number.{zero⁺}
 use Rattle.number.specs.Table.{fill_at}
-use Rattle.number.proofs.Table.{fill_at_none, fill_more}
-use Rattle.stationary.specs.Stationary.{side, share_sides}
+use Rattle.stationary.specs.Stationary.{side}
 use Rattle.stationary.proofs.sides_of.Given as goal
 
 abbrev pub invariant-loop-i : goal.invariant-loop-i

@@ -3,7 +3,6 @@ use Prim.Native.Nat.{ℕ}
 use mathlib.Core.Path.{sym, ◌∙◌}
 use mathlib.Core.List.{List}
 use lib.Ieee.{Float}
-use borrow.Author.Rules.{rules}
 use Rattle.stationary.proofs.Answers.{was_singular, was_too_large, was_solved}
 use Rattle.stationary.proofs.solved_shares.Goals.{After-solve-s}
 use Rattle.stationary.proofs.solved_shares.Goals as goal

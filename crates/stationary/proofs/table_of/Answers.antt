@@ -1,13 +1,9 @@
 use mathlib.Core.Path.{◌≡◌}
 use native.Mathlib.Omega.{arith}
-use borrow.Author.Rules.{rules}
-use Prim.Native.Nat.{◌-◌, ◌*◌, ◌≤◌}
+use Prim.Native.Nat.{◌*◌}
 use native.Mathlib.Nat.{mul-le-mul}
-use lib.ListN.{replicate}
-use Rattle.number.specs.Number.{zero⁺}
-use Rattle.number.specs.Table.{fill_at}
 use Rattle.number.proofs.Table.{fill_at_none, fill_more}
-use Rattle.stationary.specs.Stationary.{entry, share_table}
+use Rattle.stationary.specs.Stationary.{share_table}
 use Rattle.stationary.proofs.table_of.Goals as goal
 
 pub loop-e-init : goal.loop-e-init

@@ -1,6 +1,5 @@
 -- `given::copy` fills a part with the numbers from `start` on.
 use mathlib.Core.Path.{refl, ◌∙◌}
-use borrow.Author.Rules.{rules}
 use Rattle.number.proofs.Table.{fill_at_from}
 use Rattle.c_layout.proofs.Spelling.{filled_whole}
 use Rattle.c_layout.proofs.given.copy.Goals as goal

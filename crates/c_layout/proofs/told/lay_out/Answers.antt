@@ -1,6 +1,5 @@
 -- `told::lay_out` lays the parameters out where the check passed, and else leaves the numbers as found.
 use mathlib.Core.Path.{refl}
-use borrow.Author.Rules.{rules}
 use Rattle.c_layout.proofs.told.lay_out.Goals as goal
 
 pub returns-in-Passed : goal.returns-in-Passed

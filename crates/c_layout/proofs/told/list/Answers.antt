@@ -2,7 +2,6 @@
 use mathlib.Core.Path.{refl}
 use Rattle.refusal.specs.declared.Check.TheVariants.{Passed, Failed}
 use Rattle.c_layout.proofs.Spelling.{lists}
-use borrow.Author.Rules.{rules}
 use Rattle.c_layout.proofs.told.list.Goals as goal
 
 pub returns-in-Passed : goal.returns-in-Passed

@@ -1,5 +1,4 @@
 -- `told::refuse` spells a refusal.
-use borrow.Author.Rules.{rules}
 use Rattle.c_layout.proofs.told.refuse.Goals as goal
 
 pub returns : goal.returns

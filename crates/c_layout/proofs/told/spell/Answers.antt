@@ -1,6 +1,5 @@
 -- `told::spell` spells an answer with its place and log-likelihood, or the refusal.
 use mathlib.Core.Path.{refl}
-use borrow.Author.Rules.{rules}
 use Rattle.c_layout.proofs.told.spell.Goals as goal
 
 pub returns-in-Passed : goal.returns-in-Passed

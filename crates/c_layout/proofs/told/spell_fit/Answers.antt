@@ -1,6 +1,5 @@
 -- `told::spell_fit` spells an answer with its iterations and whether it converged, or the refusal.
 use mathlib.Core.Path.{refl}
-use borrow.Author.Rules.{rules}
 use Rattle.c_layout.proofs.told.spell_fit.Goals as goal
 
 pub returns-in-Passed : goal.returns-in-Passed

@@ -1,5 +1,4 @@
 -- `told::spell_windows` spells the number of windows as the place, or the refusal.
-use borrow.Author.Rules.{rules}
 use Rattle.c_layout.proofs.told.spell_windows.Goals as goal
 
 pub returns-in-Count : goal.returns-in-Count

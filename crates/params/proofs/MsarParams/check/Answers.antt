@@ -1,6 +1,5 @@
 -- `MsarParams::check`: the counts first, then the four parts, one before another.
 use native.Mathlib.Omega.{arith}
-use borrow.Author.Rules.{rules}
 use Rattle.params.proofs.Order.{few, many, long, Sized, in_parts}
 use Rattle.params.proofs.MsarParams.check.Goals.{Else-self-gt7}
 use Rattle.params.proofs.MsarParams.check.Goals as goal

@@ -1,5 +1,4 @@
 -- `matches_spec`: the four comparisons of the definition.
-use borrow.Author.Rules.{rules}
 use Rattle.params.specs.Parameters.{matches_spec}
 use Rattle.params.proofs.MsarParams.matches_spec.Goals as goal
 

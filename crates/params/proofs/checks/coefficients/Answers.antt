@@ -1,5 +1,4 @@
 -- `coefficients`: 15 at the first coefficient that is not finite, or none.
-use borrow.Author.Rules.{rules}
 use Rattle.params.proofs.Places.{ar_first}
 use Rattle.params.proofs.checks.coefficients.Goals as goal
 

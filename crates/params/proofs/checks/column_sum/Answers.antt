@@ -1,11 +1,7 @@
 use mathlib.Core.Path.{◌≡◌}
-use Prim.Native.Nat.{◌-◌, ◌≤◌}
 use native.Mathlib.Omega.{arith}
-use borrow.Author.Rules.{rules}
 use Rattle.number.proofs.Sums.{sum_none, sum_more}
-use Rattle.number.specs.Sums.{sum_up}
 use Rattle.params.specs.Checks.{column_sum}
-use Rattle.params.specs.Parameters.{P}
 use Rattle.params.proofs.checks.column_sum.Goals as goal
 
 pub loop-i-init : goal.loop-i-init

@@ -1,11 +1,7 @@
 -- `column_sum`: so far the sum of i entries of column j.
 use mathlib.Core.Path.{◌≡◌}
-use Prim.Native.Nat.{◌-◌, ◌≤◌}
-use native.Mathlib.Omega.{arith}
-use borrow.Author.Rules.{rules}
-use Rattle.number.proofs.Sums.{sum_none, sum_more}
+use Prim.Native.Nat.{◌≤◌}
 use Rattle.number.specs.Sums.{sum_up}
-use Rattle.params.specs.Checks.{column_sum}
 use Rattle.params.specs.Parameters.{P}
 use Rattle.params.proofs.checks.column_sum.Given as goal
 

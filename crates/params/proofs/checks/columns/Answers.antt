@@ -1,12 +1,9 @@
 use mathlib.Core.Path.{◌≡◌, sym, ◌∙◌}
 use lib.Ieee.{lt}
-use Prim.Native.Nat.{◌-◌, ◌≤◌}
 use native.Mathlib.Omega.{arith}
-use borrow.Author.Rules.{rules}
 use Rattle.refusal.proofs.Each.{each_none, each_more, each_found}
 use Rattle.refusal.specs.declared.Refusal.TheVariants.{Column}
-use Rattle.refusal.specs.declared.Check.TheVariants.{Passed}
-use Rattle.refusal.specs.Checks.{each, ◌when◌}
+use Rattle.refusal.specs.Checks.{◌when◌}
 use Rattle.params.specs.Checks.{slack, column_check}
 use Rattle.params.proofs.checks.columns.Goals.{After-magnitude}
 use Rattle.params.proofs.checks.columns.Goals as goal

@@ -1,5 +1,4 @@
 -- `each_variance`: 16 at the first variance that is not usable, or none.
-use borrow.Author.Rules.{rules}
 use Rattle.params.proofs.Places.{variance_first}
 use Rattle.params.proofs.checks.each_variance.Goals as goal
 

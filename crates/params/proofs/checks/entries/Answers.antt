@@ -1,5 +1,4 @@
 -- `entries`: 13 at the first entry that is no probability, or none.
-use borrow.Author.Rules.{rules}
 use Rattle.params.proofs.Places.{entry_first}
 use Rattle.params.proofs.checks.entries.Goals as goal
 

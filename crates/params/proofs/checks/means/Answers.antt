@@ -1,5 +1,4 @@
 -- `means`: 11 at the first mean that is not finite, or none.
-use borrow.Author.Rules.{rules}
 use Rattle.params.proofs.Places.{mean_first}
 use Rattle.params.proofs.checks.means.Goals as goal
 

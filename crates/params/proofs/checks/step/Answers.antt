@@ -1,7 +1,6 @@
 -- `step`: row i, column j lies within the table.
 use Prim.Native.Nat.{◌+◌, ◌*◌, ◌<◌}
 use native.Mathlib.Omega.{arith}
-use borrow.Author.Rules.{rules}
 use Rattle.number.proofs.Table.{cell_below}
 use Rattle.params.proofs.checks.step.Goals.{Start}
 use Rattle.params.proofs.checks.step.Goals as goal

@@ -1,5 +1,4 @@
 -- `variances`: 12 where their count is wrong, else each variance.
-use borrow.Author.Rules.{rules}
 use Rattle.params.proofs.Tests.{at_most}
 use mathlib.Core.Path.{ap}
 use mathlib.Core.Bool.{not}
