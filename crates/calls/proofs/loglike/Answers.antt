@@ -1,7 +1,6 @@
 -- `loglike` meets its contract: refused with nothing touched, or what its run leaves.
 use Prim.Native.Nat.{◌≤◌}
 use mathlib.Core.Path.{◌≡◌, sym, subst, ◌∙◌}
-use borrow.Author.Rules.{rules}
 use lib.ListN.{length}
 use Rattle.number.specs.Number.{zero⁺}
 use Rattle.refusal.specs.Checks.{◌before◌}

@@ -1,6 +1,5 @@
 -- `memory` meets its contract: work memory, then the table.
 use native.Mathlib.Omega.{arith}
-use borrow.Author.Rules.{rules}
 use Rattle.calls.proofs.memory.Goals as goal
 
 pub overflow_mul-b : goal.overflow_mul-b

@@ -1,7 +1,6 @@
 -- `run_filter` meets its contract: the run's answer, its table where it was not refused, and memory cleared.
 use Prim.Native.Nat.{◌+◌, ◌*◌}
 use native.Mathlib.Omega.{arith}
-use borrow.Author.Rules.{rules}
 use Rattle.calls.proofs.Runs.{run_answer_lem, values_are, all_cleared, windows_split, run_says, filtered_as_found, filtered_is}
 use Rattle.calls.proofs.run_filter.Goals as goal
 

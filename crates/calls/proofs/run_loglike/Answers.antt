@@ -1,7 +1,6 @@
 -- `run_loglike` meets its contract: the run's answer, and memory cleared.
 use Prim.Native.Nat.{◌+◌, ◌*◌}
 use native.Mathlib.Omega.{arith}
-use borrow.Author.Rules.{rules}
 use Rattle.calls.proofs.Runs.{run_answer_lem, all_cleared}
 use Rattle.calls.proofs.run_loglike.Goals as goal
 

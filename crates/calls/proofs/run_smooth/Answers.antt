@@ -2,7 +2,6 @@
 use Prim.Native.Nat.{◌*◌, ◌<◌}
 use mathlib.Core.Path.{◌∙◌}
 use native.Mathlib.Omega.{arith}
-use borrow.Author.Rules.{rules}
 use Rattle.params.specs.Parameters.{k}
 use Rattle.calls.proofs.Runs.{run_answer_lem, values_are, drop_more, all_cleared, windows_split, run_says, filtered_as_found, smoothed_as_found, filtered_is, smoothed_is}
 use Rattle.calls.proofs.run_smooth.Goals as goal

@@ -1,6 +1,5 @@
 -- `smooth_rows` meets its contract: the rows are the smoother's, and so is their table.
 use native.Mathlib.Omega.{arith}
-use borrow.Author.Rules.{rules}
 use Rattle.calls.proofs.Runs.{windows_split, smoothed_tabled}
 use Rattle.calls.proofs.smooth_rows.Goals as goal
 

@@ -1,8 +1,6 @@
 -- New parameters with their checks.
 use Rattle.em_step.proofs.Ways.{checks_refused, checks_passed}
-use Prim.Native.Nat.{◌-◌}
 use mathlib.Core.Path.{refl}
-use borrow.Author.Rules.{rules}
 use Rattle.em_step.proofs.checked.Goals as goal
 
 pub returns-in-Failed : goal.returns-in-Failed

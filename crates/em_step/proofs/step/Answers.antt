@@ -1,7 +1,6 @@
 -- The step: twice improved, counted, checked; or refused on the way.
 use mathlib.Core.Path.{◌∙◌}
 use native.Mathlib.Omega.{arith}
-use borrow.Author.Rules.{rules}
 use Rattle.em_counts.proofs.Dividing.{transition_is}
 use Rattle.em_step.proofs.Kept.{once_alike, still_ready, ready_power, ready_places}
 use Rattle.em_step.proofs.Ways.{first_refused, second_refused, stepped}

@@ -1,5 +1,4 @@
 -- `advance` meets its contract: what its three calls leave.
-use borrow.Author.Rules.{rules}
 use Rattle.filter.proofs.advance.Goals as goal
 
 pub returns : goal.returns

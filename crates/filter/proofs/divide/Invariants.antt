@@ -1,11 +1,8 @@
 -- `divide` meets its contract: each weight over the likelihood, place by place.
-use Prim.Native.Nat.{◌-◌, ◌≤◌}
+use Prim.Native.Nat.{◌≤◌}
 use mathlib.Core.Path.{◌≡◌}
-use native.Mathlib.Omega.{arith}
-use borrow.Author.Rules.{rules}
 use Rattle.number.specs.Number.{◌⊘◌}
 use Rattle.number.specs.Table.{◌!◌, fill_at}
-use Rattle.number.proofs.Table.{fill_at_none, fill_at_past, fill_more}
 use Rattle.filter.proofs.divide.Given as goal
 
 abbrev pub invariant-loop-a : goal.invariant-loop-a

@@ -1,13 +1,12 @@
-use Prim.Native.Nat.{◌*◌, ◌-◌, ◌<◌, ◌≤◌}
+use Prim.Native.Nat.{◌*◌, ◌<◌, ◌≤◌}
 use mathlib.Core.Path.{◌≡◌, sym, ◌∙◌}
 use native.Mathlib.Omega.{arith}
-use borrow.Author.Tests.{not-true, not-false}
 use borrow.Author.Rules.{rules}
 use lib.ListN.{length}
 use Rattle.number.specs.Number.{zero⁺}
 use Rattle.number.proofs.Table.{fill_long}
 use Rattle.filter.specs.Steps.{Weighed}
-use Rattle.filter.proofs.Kept.{Kept, kept_none, kept_bad, kept_more, answer_is, all_held, refusal_stays}
+use Rattle.filter.proofs.Kept.{kept_none, kept_bad, kept_more, answer_is, all_held, refusal_stays}
 use Rattle.filter.proofs.each_row.Goals.{After-weigh_row-likelihood, Start}
 use Rattle.filter.proofs.each_row.Goals as goal
 

@@ -1,14 +1,8 @@
 -- `each_row` meets its contract: the loop keeps what Kept.antt says, row by row.
-use Prim.Native.Nat.{◌*◌, ◌-◌, ◌<◌, ◌≤◌}
-use mathlib.Core.Path.{◌≡◌, sym, ◌∙◌}
-use native.Mathlib.Omega.{arith}
-use borrow.Author.Tests.{not-true, not-false}
-use borrow.Author.Rules.{rules}
+use Prim.Native.Nat.{◌-◌, ◌≤◌}
+use mathlib.Core.Path.{◌≡◌}
 use lib.ListN.{length}
-use Rattle.number.specs.Number.{zero⁺}
-use Rattle.number.proofs.Table.{fill_long}
-use Rattle.filter.specs.Steps.{Weighed}
-use Rattle.filter.proofs.Kept.{Kept, kept_none, kept_bad, kept_more, answer_is, all_held, refusal_stays}
+use Rattle.filter.proofs.Kept.{Kept}
 use Rattle.filter.proofs.each_row.Given as goal
 
 abbrev pub invariant-loop-i : goal.invariant-loop-i

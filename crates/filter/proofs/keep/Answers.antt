@@ -1,6 +1,5 @@
 -- `keep` meets its contract: the predicted row is stored after the filtered one.
 use native.Mathlib.Omega.{arith}
-use borrow.Author.Rules.{rules}
 use Rattle.rows.proofs.Stored.{row_long}
 use Rattle.filter.proofs.keep.Goals as goal
 

@@ -2,7 +2,6 @@
 use Prim.Native.Nat.{◌<◌, ◌≤◌}
 use mathlib.Core.Path.{refl, sym}
 use native.Mathlib.Omega.{arith}
-use borrow.Author.Rules.{rules}
 use Rattle.window.proofs.Shape.{order_at_most_7}
 use Rattle.number.specs.Number.{zero⁺}
 use Rattle.filter.proofs.Kept.{refusal_stays}

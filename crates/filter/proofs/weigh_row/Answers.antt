@@ -1,9 +1,7 @@
 -- `weigh_row` meets its contract: the weights of a row by the tables, and their sum.
-use Prim.Native.Nat.{◌-◌}
 use mathlib.Core.Path.{◌≡◌, ap, ◌∙◌}
 use Prim.Native.Nat.{◌+◌}
 use native.Mathlib.Omega.{arith}
-use borrow.Author.Rules.{rules}
 use Rattle.number.proofs.Table.{fill_long}
 use Rattle.window.specs.declared.Time.{Time}
 use Rattle.window.proofs.Shape.{order_at_most_7}
