@@ -35,7 +35,7 @@ fn next(rt: &(impl Print + Input), before: u64) -> bool
 // A proved loop has to end, and nothing says that the input does: it stops after 2 ^ 40 lines, which no run reaches.
 fn main(rt: HostRuntime) {
     let mut lines: u64 = 0;
-    while lines < 0x100_0000_0000 && next(&rt, lines) {
+    'reading: while lines < 0x100_0000_0000 && next(&rt, lines) {
         lines += 1;
     }
 }

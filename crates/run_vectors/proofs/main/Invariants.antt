@@ -2,5 +2,5 @@
 use Rattle.std.proofs.Common.{◌-◌}
 use Rattle.run_vectors.proofs.main.Given as goal
 
-abbrev pub decreases-loop-lines : goal.decreases-loop-lines
-decreases-loop-lines l = 1099511627776 - l.lines
+abbrev pub decreases-reading : goal.decreases-reading
+decreases-reading l = 1099511627776 - l.lines
