@@ -19,12 +19,12 @@ use spec::{MsarSpec, Windows};
 
 // ---- what a line says
 
-fn line(name: &[u8], same: bool) {
-    io::write_all(1, name);
+fn line(rt: &impl Print, name: &[u8], same: bool) {
+    host_io::write_all(rt, name);
     if same {
-        io::write_all(1, b" ok\n");
+        host_io::write_all(rt, b" ok\n");
     } else {
-        io::write_all(1, b" differs\n");
+        host_io::write_all(rt, b" differs\n");
     }
 }
 
@@ -352,17 +352,17 @@ fn p12() -> bool
     is(root::root(4.0), 2.0) & (number::pattern(root::root(2.0)) == 0x3FF6_A09E_667F_3BCD)
 }
 
-fn main() {
-    line(b"P1", p1());
-    line(b"P2", p2());
-    line(b"P3", p3());
-    line(b"P4", p4());
-    line(b"P5", p5());
-    line(b"P6", p6());
-    line(b"P7", p7());
-    line(b"P8", p8());
-    line(b"P9", p9());
-    line(b"P10", p10());
-    line(b"P11", p11());
-    line(b"P12", p12());
+fn main(rt: HostRuntime) {
+    line(&rt, b"P1", p1());
+    line(&rt, b"P2", p2());
+    line(&rt, b"P3", p3());
+    line(&rt, b"P4", p4());
+    line(&rt, b"P5", p5());
+    line(&rt, b"P6", p6());
+    line(&rt, b"P7", p7());
+    line(&rt, b"P8", p8());
+    line(&rt, b"P9", p9());
+    line(&rt, b"P10", p10());
+    line(&rt, b"P11", p11());
+    line(&rt, b"P12", p12());
 }

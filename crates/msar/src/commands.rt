@@ -1,6 +1,7 @@
 // The commands on a series. Their memory is the program's own, on its stack: 3 MiB of work memory and two tables of half a MiB.
 ghost use Rattle.std.specs.Prelude.{◌≡◌, length};
 
+use host_io::EprintBytes;
 use msar_args::{Command, Options};
 use msar_commands::verdict::Asked;
 use msar_fit::Ways;
@@ -46,6 +47,7 @@ fn asked_of(o: Options) -> Asked {
 
 // One frame holds the memory of every command.
 pub fn on_series(
+    rt: &(impl Print + EprintBytes),
     o: Options,
     s: MsarSpec,
     q: MsarParams,
@@ -63,9 +65,10 @@ pub fn on_series(
     let command = o.command;
     match command {
         Command::Loglike => {
-            msar_commands::loglike(s, y, q, o.rule, numbers, readings, o.digits, &mut work)
+            msar_commands::loglike(rt, s, y, q, o.rule, numbers, readings, o.digits, &mut work)
         }
         Command::Filter => msar_commands::filter(
+            rt,
             s,
             y,
             q,
@@ -78,6 +81,7 @@ pub fn on_series(
             &mut filtered,
         ),
         Command::Smooth => msar_commands::smooth(
+            rt,
             s,
             y,
             q,
@@ -91,6 +95,7 @@ pub fn on_series(
             &mut smoothed,
         ),
         Command::Verdict => msar_commands::verdict::verdict(
+            rt,
             s,
             y,
             q,
@@ -105,6 +110,7 @@ pub fn on_series(
             &mut smoothed,
         ),
         Command::Fit => msar_fit::fit(
+            rt,
             s,
             y,
             q,
@@ -116,6 +122,7 @@ pub fn on_series(
             &mut smoothed,
         ),
         Command::Start => msar_fit::start(
+            rt,
             y,
             numbers,
             readings,

@@ -5,11 +5,14 @@ ghost use Rattle.std.specs.Prelude.{◌≡◌, length};
 
 mod commands;
 
+use host_io::EprintBytes;
 use msar_args::{Command, Options};
 use msar_files::keep::Layout;
 use msar_files::opened;
 use params::MsarParams;
 use spec::MsarSpec;
+use std::io::{Input, Read};
+use std::rt::{Env, Files};
 
 // ---- on a series
 
@@ -47,11 +50,12 @@ fn layout_of(o: Options) -> Layout {
 
 // The readings of the file, and what the command makes of them.
 fn with_readings(
+    rt: &(impl Print + EprintBytes),
     o: Options,
     s: MsarSpec,
     q: MsarParams,
     own: &[u8],
-    fd: i32,
+    input: &mut impl Read,
     path: &[u8],
     name: &[u8],
     kept: &[u8],
@@ -60,7 +64,8 @@ fn with_readings(
     let mut numbers = no_lines();
     let mut texts = no_texts();
     let reading = msar_files::series::read(
-        fd,
+        rt,
+        input,
         path,
         layout_of(o),
         name,
@@ -72,6 +77,7 @@ fn with_readings(
     if reading.good {
         let held = text_words::least(reading.count, 4097);
         commands::on_series(
+            rt,
             o,
             s,
             q,
@@ -86,23 +92,35 @@ fn with_readings(
 }
 
 // The words that ask for the columns; empty where there are none.
-fn with_columns(o: Options, s: MsarSpec, q: MsarParams, own: &[u8], fd: i32, path: &[u8]) {
-    let mut name = io::buffer();
-    let n = os::arg(o.column, &mut name);
-    let mut kept = io::buffer();
-    let m = os::arg(o.keep, &mut kept);
-    with_readings(o, s, q, own, fd, path, &name[..n], &kept[..m]);
+fn with_columns(
+    rt: &(impl Env + Print + EprintBytes),
+    o: Options,
+    s: MsarSpec,
+    q: MsarParams,
+    own: &[u8],
+    input: &mut impl Read,
+    path: &[u8],
+) {
+    let mut name = host_io::buffer();
+    let n = host_io::arg(rt, o.column, &mut name);
+    let mut kept = host_io::buffer();
+    let m = host_io::arg(rt, o.keep, &mut kept);
+    with_readings(rt, o, s, q, own, input, path, &name[..n], &kept[..m]);
 }
 
-fn on_series(o: Options, s: MsarSpec, q: MsarParams, own: &[u8]) {
-    let mut path = io::buffer();
-    let n = os::arg(o.series, &mut path);
-    let fd = opened(&path[..n]);
-    if fd < 0 {
+fn on_series(
+    rt: &(impl Env + Files + Input + Print + EprintBytes),
+    o: Options,
+    s: MsarSpec,
+    q: MsarParams,
+    own: &[u8],
+) {
+    let mut path = host_io::buffer();
+    let n = host_io::arg(rt, o.series, &mut path);
+    let Some(mut input) = opened(rt, &path[..n]) else {
         return;
-    }
-    with_columns(o, s, q, own, fd, &path[..n]);
-    libc::close(fd);
+    };
+    with_columns(rt, o, s, q, own, &mut input, &path[..n]);
 }
 
 // ---- on a model
@@ -114,70 +132,83 @@ fn no_text() -> [u8; 16384]
     [0; 16384]
 }
 
-fn by_command(o: Options, s: MsarSpec, q: MsarParams, own: &[u8]) {
+fn by_command(
+    rt: &(impl Env + Files + Input + Print + EprintBytes),
+    o: Options,
+    s: MsarSpec,
+    q: MsarParams,
+    own: &[u8],
+) {
     let command = o.command;
     match command {
-        Command::Check => msar_commands::check(s, q),
-        Command::Durations => msar_commands::durations(s, q, o.digits),
-        _ => on_series(o, s, q, own),
+        Command::Check => msar_commands::check(rt, s, q),
+        Command::Durations => msar_commands::durations(rt, s, q, o.digits),
+        _ => on_series(rt, o, s, q, own),
     }
 }
 
 // The MODEL's own text goes with it; nothing of it where it found no room.
-fn with_text(o: Options, s: MsarSpec, q: MsarParams, own: &[u8], held: usize) {
+fn with_text(
+    rt: &(impl Env + Files + Input + Print + EprintBytes),
+    o: Options,
+    s: MsarSpec,
+    q: MsarParams,
+    own: &[u8],
+    held: usize,
+) {
     if held > own.len() {
         msar_say::note(
+            rt,
             b"the MODEL has more than 16384 bytes: a fit writes it without its comments",
         );
-        by_command(o, s, q, b"");
+        by_command(rt, o, s, q, b"");
         return;
     }
     let part = text_words::part(own, 0, held);
     let a = part.start;
     let b = part.end;
-    by_command(o, s, q, &own[a..b]);
+    by_command(rt, o, s, q, &own[a..b]);
 }
 
-fn on_model(o: Options) {
-    if (o.series != 0) & msar_args::is_input(o.model) & msar_args::is_input(o.series) {
-        msar_say::error(b"MODEL and SERIES cannot both be standard input");
+fn on_model(rt: &(impl Env + Files + Input + Print + EprintBytes), o: Options) {
+    if (o.series != 0) & msar_args::is_input(rt, o.model) & msar_args::is_input(rt, o.series) {
+        msar_say::error(rt, b"MODEL and SERIES cannot both be standard input");
         return;
     }
-    let mut path = io::buffer();
-    let n = os::arg(o.model, &mut path);
-    let fd = opened(&path[..n]);
-    if fd < 0 {
+    let mut path = host_io::buffer();
+    let n = host_io::arg(rt, o.model, &mut path);
+    let Some(mut input) = opened(rt, &path[..n]) else {
         return;
-    }
+    };
     let mut own = no_text();
-    let reading = msar_files::model::read(fd, &path[..n], &mut own);
-    libc::close(fd);
+    let reading = msar_files::model::read(rt, &mut input, &path[..n], &mut own);
+    drop(input);
     if reading.good {
         let model = reading.model;
         let s = model.spec;
         let q = model.params;
-        with_text(o, s, q, &own, reading.held);
+        with_text(rt, o, s, q, &own, reading.held);
     }
 }
 
 // `start` has no MODEL: an empty one stands in its place, which it does not look at.
-fn without_model(o: Options) {
+fn without_model(rt: &(impl Env + Files + Input + Print + EprintBytes), o: Options) {
     let model = text_model::finish(text_model::start());
     let s = model.spec;
     let q = model.params;
-    on_series(o, s, q, b"");
+    on_series(rt, o, s, q, b"");
 }
 
-fn main() {
-    let o = msar_args::read();
+fn main(rt: HostRuntime) {
+    let o = msar_args::read(&rt);
     let command = o.command;
     if !o.good {
         return;
     }
     match command {
-        Command::Help => msar_args::help::help(),
-        Command::Version => msar_args::help::version(),
-        Command::Start => without_model(o),
-        _ => on_model(o),
+        Command::Help => msar_args::help::help(&rt),
+        Command::Version => msar_args::help::version(&rt),
+        Command::Start => without_model(&rt, o),
+        _ => on_model(&rt, o),
     }
 }

@@ -1,8 +1,8 @@
 // What `msar --help` and `msar --version` write.
 
-pub fn help() {
-    io::write_all(
-        libc::STDOUT_FILENO,
+pub fn help(rt: &impl Print) {
+    host_io::write_all(
+        rt,
         b"msar: which regime of a Markov-switching autoregression holds, at each reading of a series and at its end
 
   msar start SERIES --regimes K --order P [--switching-variance]   a MODEL worked out from the readings, for fit to begin with
@@ -45,6 +45,6 @@ then ends with status 2 or 1. This program without it gives no status: it always
     );
 }
 
-pub fn version() {
-    io::write_all(libc::STDOUT_FILENO, b"msar 0.4.0\n");
+pub fn version(rt: &impl Print) {
+    host_io::write_all(rt, b"msar 0.4.0\n");
 }

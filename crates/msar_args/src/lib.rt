@@ -4,6 +4,8 @@
 pub mod help;
 mod value;
 
+use host_io::EprintBytes;
+use std::rt::Env;
 use text_csv::Heading;
 
 #[derive(Clone, Copy)]
@@ -151,10 +153,11 @@ fn with_heading(o: Options, heading: Heading) -> Options {
     Options { heading, ..o }
 }
 
-fn first_word(word: &[u8], o: Options) -> Options {
+fn first_word(rt: &impl EprintBytes, word: &[u8], o: Options) -> Options {
     let command = command_of(word);
     if let Command::Nothing = command {
         msar_say::error_of(
+            rt,
             b"no such command (msar --help says which there are): ",
             word,
         );
@@ -186,11 +189,11 @@ fn with_series(i: usize, o: Options) -> Options {
 }
 
 // The command, MODEL, SERIES; `start` has no MODEL.
-fn positional(word: &[u8], i: usize, o: Options) -> Options {
+fn positional(rt: &impl EprintBytes, word: &[u8], i: usize, o: Options) -> Options {
     let words = o.words;
     let command = o.command;
     match words {
-        0 => first_word(word, o),
+        0 => first_word(rt, word, o),
         1 => {
             if is_start(command) {
                 return with_series(i, o);
@@ -199,7 +202,7 @@ fn positional(word: &[u8], i: usize, o: Options) -> Options {
         }
         2 => with_series(i, o),
         _ => {
-            msar_say::error_of(b"one word too many: ", word);
+            msar_say::error_of(rt, b"one word too many: ", word);
             bad(o)
         }
     }
@@ -253,7 +256,7 @@ fn valued(word: &[u8]) -> Waiting {
 }
 
 // An option that takes none.
-fn alone(word: &[u8], o: Options) -> Options {
+fn alone(rt: &impl EprintBytes, word: &[u8], o: Options) -> Options {
     let mut next = o;
     if text_words::same(word, b"--help") {
         return with_command(o, Command::Help);
@@ -276,70 +279,76 @@ fn alone(word: &[u8], o: Options) -> Options {
         next.for_fit = true;
         return next;
     }
-    msar_say::error_of(b"no such option (msar --help says which there are): ", word);
+    msar_say::error_of(
+        rt,
+        b"no such option (msar --help says which there are): ",
+        word,
+    );
     bad(o)
 }
 
-fn option(word: &[u8], o: Options) -> Options {
+fn option(rt: &impl EprintBytes, word: &[u8], o: Options) -> Options {
     let waiting = valued(word);
     if let Waiting::Nothing = waiting {
-        return alone(word, o);
+        return alone(rt, word, o);
     }
     waiting_for(o, waiting)
 }
 
 // ---- all words
 
-fn word_said(word: &[u8], i: usize, o: Options) -> Options {
+fn word_said(rt: &impl EprintBytes, word: &[u8], i: usize, o: Options) -> Options {
     let waiting = o.waiting;
     let next = waiting_for(o, Waiting::Nothing);
     match waiting {
         Waiting::Nothing => {
             if is_option(word) {
-                return option(word, o);
+                return option(rt, word, o);
             }
-            positional(word, i, o)
+            positional(rt, word, i, o)
         }
-        Waiting::Column => value::column(i, next),
-        Waiting::Keep => value::keep(i, next),
-        Waiting::Separator => value::separator(word, next),
-        Waiting::Tol => value::tol(word, next),
-        Waiting::Rule => value::rule(word, next),
-        Waiting::Digits => value::count(word, waiting, next),
-        Waiting::Regime => value::count(word, waiting, next),
-        Waiting::Regimes => value::count(word, waiting, next),
-        Waiting::Order => value::count(word, waiting, next),
-        Waiting::MaxIter => value::count(word, waiting, next),
-        Waiting::Starts => value::count(word, waiting, next),
+        Waiting::Column => value::column(rt, i, next),
+        Waiting::Keep => value::keep(rt, i, next),
+        Waiting::Separator => value::separator(rt, word, next),
+        Waiting::Tol => value::tol(rt, word, next),
+        Waiting::Rule => value::rule(rt, word, next),
+        Waiting::Digits => value::count(rt, word, waiting, next),
+        Waiting::Regime => value::count(rt, word, waiting, next),
+        Waiting::Regimes => value::count(rt, word, waiting, next),
+        Waiting::Order => value::count(rt, word, waiting, next),
+        Waiting::MaxIter => value::count(rt, word, waiting, next),
+        Waiting::Starts => value::count(rt, word, waiting, next),
     }
 }
 
-fn argument(i: usize, o: Options) -> Options {
-    let mut word = io::buffer();
-    let n = os::arg(i, &mut word);
-    if os::errno() != 0 {
-        msar_say::error(b"an argument has more than 4096 bytes");
-        return bad(o);
+fn argument(rt: &(impl Env + EprintBytes), i: usize, o: Options) -> Options {
+    let mut word = host_io::buffer();
+    match rt.arg(i, &mut word) {
+        Ok(n) => word_said(rt, &word[..n], i, o),
+        Err(_) => {
+            msar_say::error(rt, b"an argument has more than 4096 bytes");
+            bad(o)
+        }
     }
-    word_said(&word[..n], i, o)
 }
 
 // ---- whether the words are those that the command takes
 
-fn lacking(o: Options, what: &[u8]) -> Options {
-    msar_say::error(what);
+fn lacking(rt: &impl EprintBytes, o: Options, what: &[u8]) -> Options {
+    msar_say::error(rt, what);
     bad(o)
 }
 
 // The option that lacks its value is the last word.
-fn unvalued(o: Options) -> Options {
-    let count = os::arg_count();
+fn unvalued(rt: &(impl Env + EprintBytes), o: Options) -> Options {
+    let count = host_io::arg_count(rt);
     if count == 0 {
-        return lacking(o, b"an option lacks its value");
+        return lacking(rt, o, b"an option lacks its value");
     }
-    let mut word = io::buffer();
-    let n = os::arg(count - 1, &mut word);
+    let mut word = host_io::buffer();
+    let n = host_io::arg(rt, count - 1, &mut word);
     msar_say::error_of(
+        rt,
         b"an option lacks its value (msar --help says what it takes): ",
         &word[..n],
     );
@@ -418,47 +427,52 @@ fn has_heading(heading: Heading) -> bool {
 }
 
 // The options that are for one command alone.
-fn for_one(o: Options) -> Options {
+fn for_one(rt: &impl EprintBytes, o: Options) -> Options {
     let command = o.command;
     if o.for_fit & !is_fit(command) {
         return lacking(
+            rt,
             o,
             b"--max-iter, --tol, --starts and --as-reached are for fit alone",
         );
     }
     if ((o.regimes != 0) | o.order_given | o.switching_variance) & !is_start(command) {
         return lacking(
+            rt,
             o,
             b"--regimes, --order and --switching-variance are for start alone",
         );
     }
     if o.regime_given & !is_verdict(command) {
-        return lacking(o, b"--regime is for verdict alone");
+        return lacking(rt, o, b"--regime is for verdict alone");
     }
     o
 }
 
 // Those that are for some commands.
-fn for_some(o: Options) -> Options {
+fn for_some(rt: &impl EprintBytes, o: Options) -> Options {
     let command = o.command;
     let heading = o.heading;
     if o.rule_given & !is_by_rule(command) {
         return lacking(
+            rt,
             o,
             b"--rule is for loglike, filter, smooth and verdict alone",
         );
     }
     if (o.keep != 0) & !is_by_reading(command) {
-        return lacking(o, b"--keep is for filter, smooth and verdict alone");
+        return lacking(rt, o, b"--keep is for filter, smooth and verdict alone");
     }
     if (o.digits != 0) & !is_table(command) {
         return lacking(
+            rt,
             o,
             b"--digits is for tables: durations, loglike, filter, smooth, verdict",
         );
     }
     if (o.column == 0) & (o.separator_given | (o.keep != 0) | has_heading(heading)) {
         return lacking(
+            rt,
             o,
             b"--separator, --heading, --no-heading and --keep need --column",
         );
@@ -466,76 +480,74 @@ fn for_some(o: Options) -> Options {
     o
 }
 
-fn in_place(o: Options) -> Options {
-    let placed = for_one(o);
+fn in_place(rt: &impl EprintBytes, o: Options) -> Options {
+    let placed = for_one(rt, o);
     if !placed.good {
         return placed;
     }
-    for_some(placed)
+    for_some(rt, placed)
 }
 
-fn complete_start(o: Options) -> Options {
+fn complete_start(rt: &impl EprintBytes, o: Options) -> Options {
     if (o.regimes == 0) | !o.order_given {
-        return lacking(o, b"start needs --regimes K and --order P");
+        return lacking(rt, o, b"start needs --regimes K and --order P");
     }
     o
 }
 
-fn complete_series(o: Options) -> Options {
+fn complete_series(rt: &impl EprintBytes, o: Options) -> Options {
     let command = o.command;
     if is_on_series(command) & (o.series == 0) {
-        return lacking(o, b"no SERIES (msar --help says how to call it)");
+        return lacking(rt, o, b"no SERIES (msar --help says how to call it)");
     }
     if !is_on_series(command) & ((o.series != 0) | (o.column != 0)) {
-        return lacking(o, b"this command takes no SERIES and no --column");
+        return lacking(rt, o, b"this command takes no SERIES and no --column");
     }
-    let placed = in_place(o);
+    let placed = in_place(rt, o);
     if placed.good & is_start(command) {
-        return complete_start(placed);
+        return complete_start(rt, placed);
     }
     placed
 }
 
-fn complete(o: Options) -> Options {
+fn complete(rt: &(impl Env + EprintBytes), o: Options) -> Options {
     let command = o.command;
     let waiting = o.waiting;
     let Waiting::Nothing = waiting else {
-        return unvalued(o);
+        return unvalued(rt, o);
     };
     match command {
-        Command::Nothing => lacking(o, b"no command (msar --help says which there are)"),
+        Command::Nothing => lacking(rt, o, b"no command (msar --help says which there are)"),
         Command::Help => o,
         Command::Version => o,
         _ => {
             if needs_model(command) & (o.model == 0) {
-                return lacking(o, b"no MODEL (msar --help says how to call it)");
+                return lacking(rt, o, b"no MODEL (msar --help says how to call it)");
             }
-            complete_series(o)
+            complete_series(rt, o)
         }
     }
 }
 
 // What the command line asks. What is at fault is said by then.
-pub fn read() -> Options {
-    let count = os::arg_count();
+pub fn read(rt: &(impl Env + EprintBytes)) -> Options {
+    let count = host_io::arg_count(rt);
     let mut o = nothing();
     if count > 64 {
-        return lacking(o, b"more than 63 words");
+        return lacking(rt, o, b"more than 63 words");
     }
-    let mut i = 1;
-    while i < count {
-        o = argument(i, o);
+    for i in 1..count {
+        o = argument(rt, i, o);
         if !o.good {
             return o;
         }
-        i += 1;
     }
-    complete(o)
+    complete(rt, o)
 }
 
 // Whether the word with this number is `-`, standard input.
-pub fn is_input(i: usize) -> bool {
-    let mut word = io::buffer();
-    let n = os::arg(i, &mut word);
+pub fn is_input(rt: &impl Env, i: usize) -> bool {
+    let mut word = host_io::buffer();
+    let n = host_io::arg(rt, i, &mut word);
     text_words::same(&word[..n], b"-")
 }

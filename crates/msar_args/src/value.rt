@@ -1,5 +1,6 @@
 // The value of an option. What is at fault is said by then.
 use crate::{Options, Waiting};
+use host_io::EprintBytes;
 use text_decimal_read::Parsed;
 use text_words::Count;
 
@@ -9,10 +10,10 @@ fn bad(o: Options) -> Options {
     next
 }
 
-pub fn tol(word: &[u8], o: Options) -> Options {
+pub fn tol(rt: &impl EprintBytes, word: &[u8], o: Options) -> Options {
     match text_decimal_read::read(word) {
         Parsed::Wrong(_) => {
-            msar_say::error_of(b"--tol takes a number, and not ", word);
+            msar_say::error_of(rt, b"--tol takes a number, and not ", word);
             bad(o)
         }
         Parsed::Number(x) => {
@@ -25,9 +26,9 @@ pub fn tol(word: &[u8], o: Options) -> Options {
 }
 
 // A column's word is looked up when the heading is read; here its place among the arguments.
-pub fn column(i: usize, o: Options) -> Options {
+pub fn column(rt: &impl EprintBytes, i: usize, o: Options) -> Options {
     if o.column != 0 {
-        msar_say::error(b"--column is given twice");
+        msar_say::error(rt, b"--column is given twice");
         return bad(o);
     }
     let mut next = o;
@@ -35,9 +36,9 @@ pub fn column(i: usize, o: Options) -> Options {
     next
 }
 
-pub fn keep(i: usize, o: Options) -> Options {
+pub fn keep(rt: &impl EprintBytes, i: usize, o: Options) -> Options {
     if o.keep != 0 {
-        msar_say::error(b"--keep is given twice");
+        msar_say::error(rt, b"--keep is given twice");
         return bad(o);
     }
     let mut next = o;
@@ -52,7 +53,7 @@ fn separated_by(c: u8, o: Options) -> Options {
     next
 }
 
-pub fn separator(word: &[u8], o: Options) -> Options {
+pub fn separator(rt: &impl EprintBytes, word: &[u8], o: Options) -> Options {
     if text_words::same(word, b",") {
         return separated_by(b',', o);
     }
@@ -62,46 +63,52 @@ pub fn separator(word: &[u8], o: Options) -> Options {
     if text_words::same(word, b"tab") {
         return separated_by(b'\t', o);
     }
-    msar_say::error_of(b"--separator takes `,`, `;` or `tab`, and not ", word);
+    msar_say::error_of(rt, b"--separator takes `,`, `;` or `tab`, and not ", word);
     bad(o)
 }
 
 // ---- whole numbers
 
-fn outside(word: &[u8], waiting: Waiting) {
+fn outside(rt: &impl EprintBytes, word: &[u8], waiting: Waiting) {
     match waiting {
         Waiting::Digits => {
             msar_say::error_of(
+                rt,
                 b"--digits takes a whole number from 1 to 17, and not ",
                 word,
             )
         }
-        Waiting::Rule => msar_say::error_of(b"--rule takes 1 or 2, and not ", word),
+        Waiting::Rule => msar_say::error_of(rt, b"--rule takes 1 or 2, and not ", word),
         Waiting::Regime => {
             msar_say::error_of(
+                rt,
                 b"--regime takes a regime's number, from 0 on, and not ",
                 word,
             )
         }
         Waiting::Regimes => {
             msar_say::error_of(
+                rt,
                 b"--regimes takes a whole number from 2 to 16, and not ",
                 word,
             )
         }
         Waiting::Order => {
             msar_say::error_of(
+                rt,
                 b"--order takes a whole number from 1 to 7 (a fit needs one of at least 1), and not ",
                 word,
             )
         }
         Waiting::Starts => {
             msar_say::error_of(
+                rt,
                 b"--starts takes a whole number from 1 to 100, and not ",
                 word,
             )
         }
         _ => msar_say::error_of(
+            rt,
             b"--max-iter takes a whole number below 1000000000, and not ",
             word,
         ),
@@ -149,15 +156,15 @@ fn kept(n: usize, waiting: Waiting, o: Options) -> Options {
     next
 }
 
-pub fn count(word: &[u8], waiting: Waiting, o: Options) -> Options {
+pub fn count(rt: &impl EprintBytes, word: &[u8], waiting: Waiting, o: Options) -> Options {
     match text_words::whole(word) {
         Count::Wrong => {
-            outside(word, waiting);
+            outside(rt, word, waiting);
             bad(o)
         }
         Count::Number(n) => {
             if !is_inside(n, waiting) {
-                outside(word, waiting);
+                outside(rt, word, waiting);
                 return bad(o);
             }
             kept(n, waiting, o)
@@ -166,10 +173,10 @@ pub fn count(word: &[u8], waiting: Waiting, o: Options) -> Options {
 }
 
 // The rule decides which numbers come out, so a second one is not passed over.
-pub fn rule(word: &[u8], o: Options) -> Options {
+pub fn rule(rt: &impl EprintBytes, word: &[u8], o: Options) -> Options {
     if o.rule_given {
-        msar_say::error(b"--rule is given twice");
+        msar_say::error(rt, b"--rule is given twice");
         return bad(o);
     }
-    count(word, Waiting::Rule, o)
+    count(rt, word, Waiting::Rule, o)
 }

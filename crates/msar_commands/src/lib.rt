@@ -8,6 +8,7 @@ ghost use Rattle.std.specs.Prelude.{◌<◌};
 pub mod refusals;
 pub mod verdict;
 
+use host_io::EprintBytes;
 use msar_out::table::Style;
 use msar_out::{entry, row_start, table};
 use params::MsarParams;
@@ -38,17 +39,18 @@ fn longest(order: usize, windows: usize) -> usize {
 }
 
 // The parameters, and the shares from which every call starts.
-fn is_sound(s: MsarSpec, q: MsarParams) -> bool {
-    if !is_fine(q.check(), s, q) {
+fn is_sound(rt: &impl EprintBytes, s: MsarSpec, q: MsarParams) -> bool {
+    if !is_fine(rt, q.check(), s, q) {
         return false;
     }
     let shares = stationary::stationary_shares(q);
     let check = shares.check;
-    is_fine(check, s, q)
+    is_fine(rt, check, s, q)
 }
 
-fn note_stays(i: usize) {
+fn note_stays(rt: &impl EprintBytes, i: usize) {
     msar_say::note_of(
+        rt,
         b"regime ",
         i,
         b" cannot be left (its probability of staying is 1): every call starts as if it held already, and no verdict on another regime lasts",
@@ -56,57 +58,60 @@ fn note_stays(i: usize) {
 }
 
 // Says which regimes cannot be left.
-fn note_all_that_stay(q: MsarParams) {
+fn note_all_that_stay(rt: &impl EprintBytes, q: MsarParams) {
     let k = least(q.means_count, 16);
-    let mut i = 0;
-    while i < k {
+    for i in 0..k {
         if entry(&q.transition, row_start(i, k) + i) >= 1.0 {
-            note_stays(i);
+            note_stays(rt, i);
         }
-        i += 1;
     }
 }
 
 // The shape, after the checks.
-pub fn check(s: MsarSpec, q: MsarParams) {
+pub fn check(rt: &(impl Print + EprintBytes), s: MsarSpec, q: MsarParams) {
     match s.expanded_states() {
-        Windows::Refused(r) => msar_say::refusals::refused(r, s.k_regimes, s.order, b""),
+        Windows::Refused(r) => msar_say::refusals::refused(rt, r, s.k_regimes, s.order, b""),
         Windows::Count(m) => {
-            if is_sound(s, q) {
-                note_all_that_stay(q);
-                table::shape(s.k_regimes, s.order, m, longest(s.order, m));
+            if is_sound(rt, s, q) {
+                note_all_that_stay(rt, q);
+                table::shape(rt, s.k_regimes, s.order, m, longest(s.order, m));
             }
         }
     }
 }
 
 // How long the model stays in each regime, on average.
-pub fn durations(s: MsarSpec, q: MsarParams, digits: usize) {
+pub fn durations(rt: &(impl Print + EprintBytes), s: MsarSpec, q: MsarParams, digits: usize) {
     let d = q.expected_durations();
     let check = d.check;
     let values = d.values;
-    if is_fine(check, s, q) {
-        table::durations(values, q.means_count, digits);
+    if is_fine(rt, check, s, q) {
+        table::durations(rt, values, q.means_count, digits);
     }
 }
 
 // ---- on a model and a series
 
 // What rule 1 means at order 0, said before the answer. From order 1 on both rules give the same.
-fn note_rule(order: usize, rule: usize, smoothed: bool) {
+fn note_rule(rt: &impl EprintBytes, order: usize, rule: usize, smoothed: bool) {
     if (order != 0) | (rule != 1) {
         return;
     }
     if smoothed {
         msar_say::note(
+            rt,
             b"at order 0 --rule 1 does not look at the regime before, and the smoothed rows do not add up to 1: leave out --rule 1",
         );
         return;
     }
-    msar_say::note(b"at order 0 --rule 1 does not look at the regime before: leave out --rule 1");
+    msar_say::note(
+        rt,
+        b"at order 0 --rule 1 does not look at the regime before: leave out --rule 1",
+    );
 }
 
 pub fn loglike(
+    rt: &(impl Print + EprintBytes),
     s: MsarSpec,
     y: &[f64],
     q: MsarParams,
@@ -118,13 +123,14 @@ pub fn loglike(
 ) {
     let answer = calls::loglike(s, y, q, rule, work);
     let check = answer.check;
-    if has_passed(check, s, q, y, numbers, readings) {
-        note_rule(s.order, rule, false);
-        table::loglike(readings, answer.loglik, digits);
+    if has_passed(rt, check, s, q, y, numbers, readings) {
+        note_rule(rt, s.order, rule, false);
+        table::loglike(rt, readings, answer.loglik, digits);
     }
 }
 
 pub fn filter(
+    rt: &(impl Print + EprintBytes),
     s: MsarSpec,
     y: &[f64],
     q: MsarParams,
@@ -138,13 +144,14 @@ pub fn filter(
 ) {
     let answer = calls::filter(s, y, q, rule, work, filtered);
     let check = answer.check;
-    if has_passed(check, s, q, y, numbers, readings) {
-        note_rule(s.order, rule, false);
-        table::probabilities(y, s.order, filtered, s.k_regimes, texts, style);
+    if has_passed(rt, check, s, q, y, numbers, readings) {
+        note_rule(rt, s.order, rule, false);
+        table::probabilities(rt, y, s.order, filtered, s.k_regimes, texts, style);
     }
 }
 
 pub fn smooth(
+    rt: &(impl Print + EprintBytes),
     s: MsarSpec,
     y: &[f64],
     q: MsarParams,
@@ -159,8 +166,8 @@ pub fn smooth(
 ) {
     let answer = calls::smooth(s, y, q, rule, work, filtered, smoothed);
     let check = answer.check;
-    if has_passed(check, s, q, y, numbers, readings) {
-        note_rule(s.order, rule, true);
-        table::probabilities(y, s.order, smoothed, s.k_regimes, texts, style);
+    if has_passed(rt, check, s, q, y, numbers, readings) {
+        note_rule(rt, s.order, rule, true);
+        table::probabilities(rt, y, s.order, smoothed, s.k_regimes, texts, style);
     }
 }

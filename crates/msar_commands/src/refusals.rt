@@ -1,6 +1,7 @@
 // What a call's check means for what the program was handed: the reading with its line, the table that may be transposed.
 ghost use Rattle.std.specs.Prelude.{◌≤◌};
 
+use host_io::EprintBytes;
 use msar_out::{entry, row_start};
 use params::MsarParams;
 use refusal::{Check, Refusal};
@@ -13,10 +14,8 @@ fn row_sum(table: &[f64], from: usize, k: usize) -> f64
     requires { (from ≤ 65536) × (k ≤ 16) }
 {
     let mut sum = 0.0;
-    let mut j = 0;
-    while j < k {
+    for j in 0..k {
         sum = sum + entry(table, from + j);
-        j += 1;
     }
     sum
 }
@@ -24,20 +23,19 @@ fn row_sum(table: &[f64], from: usize, k: usize) -> f64
 // Whether each row of the transition table adds up to 1, as each column should.
 fn is_transposed(q: MsarParams) -> bool {
     let k = least(q.means_count, 16);
-    let mut i = 0;
-    while i < k {
+    for i in 0..k {
         let off = row_sum(&q.transition, row_start(i, k), k) - 1.0;
         if !((off <= 1e-8) & (off >= -1e-8)) {
             return false;
         }
-        i += 1;
     }
     true
 }
 
-fn columns(r: Refusal, k: usize, order: usize, q: MsarParams) {
+fn columns(rt: &impl EprintBytes, r: Refusal, k: usize, order: usize, q: MsarParams) {
     if is_transposed(q) {
         msar_say::refusals::refused(
+            rt,
             r,
             k,
             order,
@@ -45,15 +43,16 @@ fn columns(r: Refusal, k: usize, order: usize, q: MsarParams) {
         );
         return;
     }
-    msar_say::refusals::refused(r, k, order, b"");
+    msar_say::refusals::refused(rt, r, k, order, b"");
 }
 
 // ---- a singular system
 
 // 21 of the AR coefficients names the lag. Of which regime they are it does not say, where each has its own.
-fn coefficients(r: Refusal, s: MsarSpec) {
+fn coefficients(rt: &impl EprintBytes, r: Refusal, s: MsarSpec) {
     if s.switching_ar {
         msar_say::refusals::refused(
+            rt,
             r,
             s.k_regimes,
             s.order,
@@ -62,6 +61,7 @@ fn coefficients(r: Refusal, s: MsarSpec) {
         return;
     }
     msar_say::refusals::refused(
+        rt,
         r,
         s.k_regimes,
         s.order,
@@ -69,12 +69,12 @@ fn coefficients(r: Refusal, s: MsarSpec) {
     );
 }
 
-fn singular(r: Refusal, which: usize, s: MsarSpec) {
+fn singular(rt: &impl EprintBytes, r: Refusal, which: usize, s: MsarSpec) {
     if which == 2 {
-        coefficients(r, s);
+        coefficients(rt, r, s);
         return;
     }
-    msar_say::refusals::refused(r, s.k_regimes, s.order, b"");
+    msar_say::refusals::refused(rt, r, s.k_regimes, s.order, b"");
 }
 
 // ---- a reading
@@ -91,8 +91,8 @@ pub fn line_at(numbers: &[u64], t: usize) -> u64 {
     line_of(numbers, t)
 }
 
-fn reading(number: usize, t: usize, y: &[f64], numbers: &[u64]) {
-    msar_say::refusals::reading(number, t, line_of(numbers, t), entry(y, t));
+fn reading(rt: &impl EprintBytes, number: usize, t: usize, y: &[f64], numbers: &[u64]) {
+    msar_say::refusals::reading(rt, number, t, line_of(numbers, t), entry(y, t));
 }
 
 // The reading of a row.
@@ -100,26 +100,36 @@ fn time_of(row: usize, order: usize) -> usize {
     least(row, 4096) + least(order, 7)
 }
 
-fn refused(r: Refusal, s: MsarSpec, q: MsarParams, y: &[f64], numbers: &[u64], readings: usize) {
+fn refused(
+    rt: &impl EprintBytes,
+    r: Refusal,
+    s: MsarSpec,
+    q: MsarParams,
+    y: &[f64],
+    numbers: &[u64],
+    readings: usize,
+) {
     let k = s.k_regimes;
     let order = s.order;
     match r {
         Refusal::LongSeries(_) => msar_say::refusals::refused(
+            rt,
             Refusal::LongSeries(readings),
             k,
             order,
             b"",
         ),
-        Refusal::Reading(t) => reading(6, t, y, numbers),
-        Refusal::Likelihood(row) => reading(23, time_of(row, order), y, numbers),
-        Refusal::Column(_, _) => columns(r, k, order, q),
-        Refusal::Singular(which, _) => singular(r, which, s),
-        _ => msar_say::refusals::refused(r, k, order, b""),
+        Refusal::Reading(t) => reading(rt, 6, t, y, numbers),
+        Refusal::Likelihood(row) => reading(rt, 23, time_of(row, order), y, numbers),
+        Refusal::Column(_, _) => columns(rt, r, k, order, q),
+        Refusal::Singular(which, _) => singular(rt, r, which, s),
+        _ => msar_say::refusals::refused(rt, r, k, order, b""),
     }
 }
 
 // Says a refusal, if there is one. One of a series that is too long carries how many readings there were.
 pub fn has_passed(
+    rt: &impl EprintBytes,
     check: Check,
     s: MsarSpec,
     q: MsarParams,
@@ -130,15 +140,15 @@ pub fn has_passed(
     match check {
         Check::Passed => true,
         Check::Failed(r) => {
-            refused(r, s, q, y, numbers, readings);
+            refused(rt, r, s, q, y, numbers, readings);
             false
         }
     }
 }
 
 // The same where there is no series.
-pub fn is_fine(check: Check, s: MsarSpec, q: MsarParams) -> bool {
+pub fn is_fine(rt: &impl EprintBytes, check: Check, s: MsarSpec, q: MsarParams) -> bool {
     let y = [0.0; 1];
     let numbers = [0u64; 1];
-    has_passed(check, s, q, &y, &numbers, 0)
+    has_passed(rt, check, s, q, &y, &numbers, 0)
 }

@@ -3,6 +3,7 @@ ghost use Rattle.std.specs.Prelude.{◌<◌};
 ghost use Rattle.text_words.specs.Places.{Leads};
 
 use crate::refusals::{has_passed, line_at};
+use host_io::EprintBytes;
 use msar_out::table::Style;
 use msar_out::{is_written, table};
 use msar_say::put;
@@ -10,6 +11,7 @@ use msar_say::put::Text;
 use msar_verdict::{Finding, Verdict};
 use params::MsarParams;
 use spec::MsarSpec;
+use std::io;
 use text_words::least;
 
 // Which regimes are asked for: all below k, or one.
@@ -78,7 +80,7 @@ fn ending(out: &mut Text, at: usize, found: Finding) -> usize
     )
 }
 
-fn holds(regime: usize, found: Finding, t: usize, line: u64) {
+fn holds(rt: &impl EprintBytes, regime: usize, found: Finding, t: usize, line: u64) {
     let mut out = put::blank();
     let n = counted(
         &mut out,
@@ -92,10 +94,10 @@ fn holds(regime: usize, found: Finding, t: usize, line: u64) {
     let n = put::whole(&mut out, n, line);
     let n = put::bytes(&mut out, n, b")");
     let n = ending(&mut out, n, found);
-    io::write_all(libc::STDERR_FILENO, &out[..n]);
+    host_io::complain(rt, &out[..n]);
 }
 
-fn does_not_hold(regime: usize, found: Finding) {
+fn does_not_hold(rt: &impl EprintBytes, regime: usize, found: Finding) {
     let mut out = put::blank();
     let n = counted(
         &mut out,
@@ -106,13 +108,14 @@ fn does_not_hold(regime: usize, found: Finding) {
     );
     let n = put::figure(&mut out, n, found.share, 6);
     let n = put::bytes(&mut out, n, b"\n");
-    io::write_all(libc::STDERR_FILENO, &out[..n]);
+    host_io::complain(rt, &out[..n]);
 }
 
 // ---- the rows
 
-// Whether the row was written. The regime that holds has its sentence, and so has one that was asked for.
+// Writes the row. The regime that holds has its sentence, and so has one that was asked for.
 fn one_regime(
+    rt: &(impl Print + EprintBytes),
     regime: usize,
     found: Finding,
     asked: Asked,
@@ -120,30 +123,29 @@ fn one_regime(
     numbers: &[u64],
     texts: &[u8],
     style: Style,
-) -> bool {
+) -> io::Result<()> {
     let t = time_of(found, order);
     let line = line_at(numbers, t);
     if found.run > 0 {
-        holds(regime, found, t, line);
+        holds(rt, regime, found, t, line);
     } else if asked.one {
-        does_not_hold(regime, found);
+        does_not_hold(rt, regime, found);
     }
-    table::verdict(regime, found, t, line, texts, style)
+    table::verdict(rt, regime, found, t, line, texts, style)
 }
 
 // Whether a regime stands above one half at the end.
 fn any_holds(smoothed: &[f64], n: usize, k: usize) -> bool {
-    let mut r = 0;
-    while r < k {
+    for r in 0..k {
         if msar_verdict::run(smoothed, n, k, r) > 0 {
             return true;
         }
-        r += 1;
     }
     false
 }
 
 fn rows(
+    rt: &(impl Print + EprintBytes),
     s: MsarSpec,
     n: usize,
     smoothed: &[f64],
@@ -152,19 +154,31 @@ fn rows(
     numbers: &[u64],
     texts: &[u8],
     style: Style,
-) -> bool {
+) -> io::Result<()> {
     let k = least(s.k_regimes, 16);
-    let mut r = 0;
-    while r < k {
+    for r in 0..k {
         if !asked.one | (r == asked.regime) {
             let found = msar_verdict::of_regime(smoothed, n, k, r, durations[r]);
-            if !one_regime(r, found, asked, s.order, numbers, texts, style) {
-                return false;
-            }
+            one_regime(rt, r, found, asked, s.order, numbers, texts, style)?;
         }
-        r += 1;
     }
-    true
+    Ok(())
+}
+
+// The names, and the rows.
+fn headed_rows(
+    rt: &(impl Print + EprintBytes),
+    s: MsarSpec,
+    n: usize,
+    smoothed: &[f64],
+    durations: [f64; 16],
+    asked: Asked,
+    numbers: &[u64],
+    texts: &[u8],
+    style: Style,
+) -> io::Result<()> {
+    table::verdict_names(rt, texts, style)?;
+    rows(rt, s, n, smoothed, durations, asked, numbers, texts, style)
 }
 
 // The count of rows.
@@ -176,6 +190,7 @@ fn rows_of(readings: usize, order: usize) -> usize {
 }
 
 fn written(
+    rt: &(impl Print + EprintBytes),
     s: MsarSpec,
     y: &[f64],
     q: MsarParams,
@@ -189,30 +204,35 @@ fn written(
     let durations = d.values;
     let n = rows_of(y.len(), s.order);
     if !asked.one & !any_holds(smoothed, n, s.k_regimes) {
-        msar_say::note(b"no regime has a probability above one half at the end");
+        msar_say::note(rt, b"no regime has a probability above one half at the end");
     }
     is_written(
-        table::verdict_names(texts, style)
-            && rows(s, n, smoothed, durations, asked, numbers, texts, style),
+        rt,
+        headed_rows(rt, s, n, smoothed, durations, asked, numbers, texts, style),
     );
 }
 
 // At order 0 the smoothed numbers of rule 1 are no probabilities.
-fn is_possible(s: MsarSpec, rule: usize, asked: Asked) -> bool {
+fn is_possible(rt: &impl EprintBytes, s: MsarSpec, rule: usize, asked: Asked) -> bool {
     if (s.order == 0) & (rule == 1) {
         msar_say::error(
+            rt,
             b"there is no verdict at order 0 with --rule 1, whose smoothed rows do not add up to 1 there: leave out --rule 1",
         );
         return false;
     }
     if asked.one & (asked.regime >= s.k_regimes) {
-        msar_say::error(b"--regime names a regime that the MODEL does not have: they count from 0");
+        msar_say::error(
+            rt,
+            b"--regime names a regime that the MODEL does not have: they count from 0",
+        );
         return false;
     }
     true
 }
 
 pub fn verdict(
+    rt: &(impl Print + EprintBytes),
     s: MsarSpec,
     y: &[f64],
     q: MsarParams,
@@ -226,12 +246,12 @@ pub fn verdict(
     filtered: &mut [f64],
     smoothed: &mut [f64],
 ) {
-    if !is_possible(s, rule, asked) {
+    if !is_possible(rt, s, rule, asked) {
         return;
     }
     let answer = calls::smooth(s, y, q, rule, work, filtered, smoothed);
     let check = answer.check;
-    if has_passed(check, s, q, y, numbers, readings) {
-        written(s, y, q, numbers, texts, asked, style, smoothed);
+    if has_passed(rt, check, s, q, y, numbers, readings) {
+        written(rt, s, y, q, numbers, texts, asked, style, smoothed);
     }
 }

@@ -1,14 +1,16 @@
 // A line of a SERIES file with columns: the heading, or a row. What is at fault is said by then.
 use crate::keep::{Layout, Progress, Told};
 use crate::{column, keep};
+use host_io::EprintBytes;
 use text_csv::{First, Heading, Place, Wanted};
 use text_decimal_read::Parsed;
 
 // ---- what is at fault in the first line
 
 // The heading line has no such column.
-fn no_column(path: &[u8], number: u64, text: &[u8], word: &[u8]) {
+fn no_column(rt: &impl EprintBytes, path: &[u8], number: u64, text: &[u8], word: &[u8]) {
     msar_say::file::found_both(
+        rt,
         path,
         number,
         b"no column ",
@@ -19,8 +21,9 @@ fn no_column(path: &[u8], number: u64, text: &[u8], word: &[u8]) {
     );
 }
 
-fn twice(path: &[u8], number: u64, i: usize, j: usize) {
+fn twice(rt: &impl EprintBytes, path: &[u8], number: u64, i: usize, j: usize) {
     msar_say::file::counted(
+        rt,
         path,
         number,
         b"two columns have this heading, ",
@@ -32,19 +35,28 @@ fn twice(path: &[u8], number: u64, i: usize, j: usize) {
 }
 
 // Where the column of this word stands under the heading; the count of cells where that is not told.
-fn under(path: &[u8], number: u64, text: &[u8], separator: u8, word: &[u8], count: usize) -> usize {
+fn under(
+    rt: &impl EprintBytes,
+    path: &[u8],
+    number: u64,
+    text: &[u8],
+    separator: u8,
+    word: &[u8],
+    count: usize,
+) -> usize {
     match text_csv::under(text, separator, word) {
         Place::At(i) => i,
         Place::Nothing => {
-            no_column(path, number, text, word);
+            no_column(rt, path, number, text, word);
             count
         }
         Place::Twice(i, j) => {
-            twice(path, number, i, j);
+            twice(rt, path, number, i, j);
             count
         }
         Place::Other(_) => {
             msar_say::file::found(
+                rt,
                 path,
                 number,
                 1,
@@ -58,10 +70,11 @@ fn under(path: &[u8], number: u64, text: &[u8], separator: u8, word: &[u8], coun
 }
 
 // The same without a heading: by place alone.
-fn by_place(path: &[u8], number: u64, word: &[u8], count: usize) -> usize {
+fn by_place(rt: &impl EprintBytes, path: &[u8], number: u64, word: &[u8], count: usize) -> usize {
     match text_csv::asked(word) {
         Wanted::Named => {
             msar_say::file::found(
+                rt,
                 path,
                 number,
                 1,
@@ -73,7 +86,15 @@ fn by_place(path: &[u8], number: u64, word: &[u8], count: usize) -> usize {
         }
         Wanted::Placed(i) => {
             if i >= count {
-                msar_say::file::found(path, number, 1, b"no column ", word, b": there are fewer");
+                msar_say::file::found(
+                    rt,
+                    path,
+                    number,
+                    1,
+                    b"no column ",
+                    word,
+                    b": there are fewer",
+                );
                 return count;
             }
             i
@@ -84,12 +105,19 @@ fn by_place(path: &[u8], number: u64, word: &[u8], count: usize) -> usize {
 // ---- the first line
 
 // Cells that another character than a comma seems to part.
-fn is_parted_otherwise(path: &[u8], number: u64, text: &[u8], layout: Layout) -> bool {
+fn is_parted_otherwise(
+    rt: &impl EprintBytes,
+    path: &[u8],
+    number: u64,
+    text: &[u8],
+    layout: Layout,
+) -> bool {
     if layout.separator_given {
         return false;
     }
     if text_words::has(text, b';') {
         msar_say::file::wrong(
+            rt,
             path,
             number,
             1,
@@ -99,6 +127,7 @@ fn is_parted_otherwise(path: &[u8], number: u64, text: &[u8], layout: Layout) ->
     }
     if text_words::has(text, b'\t') {
         msar_say::file::wrong(
+            rt,
             path,
             number,
             1,
@@ -110,15 +139,23 @@ fn is_parted_otherwise(path: &[u8], number: u64, text: &[u8], layout: Layout) ->
 }
 
 // The content of the cell with this number, said to be the readings' heading.
-fn told_column(path: &[u8], text: &[u8], i: usize, separator: u8, headed: bool) {
+fn told_column(
+    rt: &impl EprintBytes,
+    path: &[u8],
+    text: &[u8],
+    i: usize,
+    separator: u8,
+    headed: bool,
+) {
     let cell = text_csv::content(text, i, separator);
     let a = cell.start;
     let b = cell.end;
-    msar_say::file::column_read(path, column(i), headed, &text[a..b]);
+    msar_say::file::column_read(rt, path, column(i), headed, &text[a..b]);
 }
 
 // A line of names that may be a damaged row, where a column is asked for by its place.
 fn is_strange(
+    rt: &impl EprintBytes,
     path: &[u8],
     number: u64,
     text: &[u8],
@@ -143,6 +180,7 @@ fn is_strange(
         return false;
     }
     msar_say::file::found(
+        rt,
         path,
         number,
         column(a),
@@ -166,6 +204,7 @@ fn begun(p: Progress, cells: usize, i: usize, j: usize, doubtful: bool) -> Progr
 
 // A heading line.
 fn headed(
+    rt: &impl EprintBytes,
     path: &[u8],
     number: u64,
     text: &[u8],
@@ -176,25 +215,26 @@ fn headed(
 ) -> Told {
     let separator = layout.separator;
     let count = text_words::cells(text, separator);
-    let i = under(path, number, text, separator, name, count);
+    let i = under(rt, path, number, text, separator, name, count);
     if i >= count {
         return keep::stopped(p);
     }
-    if is_strange(path, number, text, layout, name, i) {
+    if is_strange(rt, path, number, text, layout, name, i) {
         return keep::stopped(p);
     }
     let j = if layout.keeps {
-        under(path, number, text, separator, kept, count)
+        under(rt, path, number, text, separator, kept, count)
     } else {
         0
     };
     if j >= count {
         return keep::stopped(p);
     }
-    told_column(path, text, i, separator, true);
+    told_column(rt, path, text, i, separator, true);
     let mut next = begun(p, count, i, j, false);
     next.headed = true;
     with_kept(
+        rt,
         path,
         number,
         text,
@@ -207,6 +247,7 @@ fn headed(
 
 // A first line that is a row.
 fn unheaded(
+    rt: &impl EprintBytes,
     path: &[u8],
     number: u64,
     text: &[u8],
@@ -216,24 +257,32 @@ fn unheaded(
     kept: &[u8],
 ) -> Told {
     let count = text_words::cells(text, layout.separator);
-    let i = by_place(path, number, name, count);
+    let i = by_place(rt, path, number, name, count);
     if i >= count {
         return keep::stopped(p);
     }
     let j = if layout.keeps {
-        by_place(path, number, kept, count)
+        by_place(rt, path, number, kept, count)
     } else {
         0
     };
     if j >= count {
         return keep::stopped(p);
     }
-    told_column(path, text, i, layout.separator, false);
+    told_column(rt, path, text, i, layout.separator, false);
     keep::going(begun(p, count, i, j, !layout.separator_given))
 }
 
 // Cells with numbers i and j, one a number and one none.
-fn mixed(path: &[u8], number: u64, text: &[u8], separator: u8, i: usize, j: usize) {
+fn mixed(
+    rt: &impl EprintBytes,
+    path: &[u8],
+    number: u64,
+    text: &[u8],
+    separator: u8,
+    i: usize,
+    j: usize,
+) {
     let first = text_csv::content(text, i, separator);
     let a = first.start;
     let b = first.end;
@@ -241,6 +290,7 @@ fn mixed(path: &[u8], number: u64, text: &[u8], separator: u8, i: usize, j: usiz
     let c = second.start;
     let d = second.end;
     msar_say::file::found_both(
+        rt,
         path,
         number,
         b"the first line has a number, ",
@@ -270,6 +320,7 @@ fn is_loose(text: &[u8]) -> bool {
 
 // With the cell that is to be carried along, if one is and there is room for it.
 fn with_kept(
+    rt: &impl EprintBytes,
     path: &[u8],
     number: u64,
     text: &[u8],
@@ -286,6 +337,7 @@ fn with_kept(
     let b = cell.end;
     if b - a > 63 {
         msar_say::file::found(
+            rt,
             path,
             number,
             column(a),
@@ -297,6 +349,7 @@ fn with_kept(
     }
     if is_loose(&text[a..b]) {
         msar_say::file::found(
+            rt,
             path,
             number,
             column(a),
@@ -309,12 +362,20 @@ fn with_kept(
     keep::with_part(told, slot, a, b)
 }
 
-fn is_full(path: &[u8], number: u64, text: &[u8], p: Progress, separator: u8) -> bool {
+fn is_full(
+    rt: &impl EprintBytes,
+    path: &[u8],
+    number: u64,
+    text: &[u8],
+    p: Progress,
+    separator: u8,
+) -> bool {
     let count = text_words::cells(text, separator);
     if count == p.cells {
         return true;
     }
     msar_say::file::counted(
+        rt,
         path,
         number,
         b"this line has ",
@@ -327,8 +388,15 @@ fn is_full(path: &[u8], number: u64, text: &[u8], p: Progress, separator: u8) ->
 }
 
 // The reading of a row.
-fn row(path: &[u8], number: u64, text: &[u8], p: Progress, layout: Layout) -> Told {
-    if !is_full(path, number, text, p, layout.separator) {
+fn row(
+    rt: &impl EprintBytes,
+    path: &[u8],
+    number: u64,
+    text: &[u8],
+    p: Progress,
+    layout: Layout,
+) -> Told {
+    if !is_full(rt, path, number, text, p, layout.separator) {
         return keep::stopped(p);
     }
     let cell = text_csv::content(text, p.column, layout.separator);
@@ -338,11 +406,11 @@ fn row(path: &[u8], number: u64, text: &[u8], p: Progress, layout: Layout) -> To
     next.doubtful = p.doubtful && text_csv::is_doubtful(text, p.column, layout.separator);
     match text_decimal_read::read(&text[a..b]) {
         Parsed::Number(x) => {
-            let told = keep::reading(path, number, next, x);
-            with_kept(path, number, text, p, layout, p.count, told)
+            let told = keep::reading(rt, path, number, next, x);
+            with_kept(rt, path, number, text, p, layout, p.count, told)
         }
         Parsed::Wrong(_) => {
-            msar_say::file::no_number(path, number, column(a), &text[a..b]);
+            msar_say::file::no_number(rt, path, number, column(a), &text[a..b]);
             keep::stopped(p)
         }
     }
@@ -351,6 +419,7 @@ fn row(path: &[u8], number: u64, text: &[u8], p: Progress, layout: Layout) -> To
 // ---- any line
 
 fn first(
+    rt: &impl EprintBytes,
     path: &[u8],
     number: u64,
     text: &[u8],
@@ -359,21 +428,21 @@ fn first(
     name: &[u8],
     kept: &[u8],
 ) -> Told {
-    if is_parted_otherwise(path, number, text, layout) {
+    if is_parted_otherwise(rt, path, number, text, layout) {
         return keep::stopped(p);
     }
     match kind_of(text, layout) {
-        First::Names => headed(path, number, text, p, layout, name, kept),
+        First::Names => headed(rt, path, number, text, p, layout, name, kept),
         First::Row => {
-            let told = unheaded(path, number, text, p, layout, name, kept);
+            let told = unheaded(rt, path, number, text, p, layout, name, kept);
             let next = told.progress;
             if next.first {
                 return told;
             }
-            row(path, number, text, next, layout)
+            row(rt, path, number, text, next, layout)
         }
         First::Mixed(i, j) => {
-            mixed(path, number, text, layout.separator, i, j);
+            mixed(rt, path, number, text, layout.separator, i, j);
             keep::stopped(p)
         }
     }
@@ -386,6 +455,7 @@ fn is_blank(text: &[u8], separator: u8) -> bool {
 
 // What the line adds.
 pub fn line(
+    rt: &impl EprintBytes,
     path: &[u8],
     number: u64,
     text: &[u8],
@@ -398,11 +468,11 @@ pub fn line(
         return keep::blank(p, number);
     }
     if !text_words::closed(text) {
-        msar_say::file::wrong(path, number, 1, b"a quote is not closed on this line");
+        msar_say::file::wrong(rt, path, number, 1, b"a quote is not closed on this line");
         return keep::stopped(p);
     }
     if p.first {
-        return first(path, number, text, p, layout, name, kept);
+        return first(rt, path, number, text, p, layout, name, kept);
     }
-    row(path, number, text, p, layout)
+    row(rt, path, number, text, p, layout)
 }

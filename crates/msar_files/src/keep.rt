@@ -3,6 +3,7 @@
 ghost use Rattle.std.specs.Prelude.{◌≡◌, ◌≤◌, ◌<◌, ◌*◌, length};
 
 use crate::lines::Course;
+use host_io::EprintBytes;
 use text_csv::Heading;
 
 // What the caller says of the file: whether it has columns, what parts them, what its first line is, whether a column is to be kept.
@@ -128,9 +129,10 @@ fn one_more(count: usize) -> usize {
 }
 
 // The reading x of this line.
-pub fn reading(path: &[u8], number: u64, p: Progress, x: f64) -> Told {
+pub fn reading(rt: &impl EprintBytes, path: &[u8], number: u64, p: Progress, x: f64) -> Told {
     if p.blank != 0 {
         msar_say::file::wrong(
+            rt,
             path,
             p.blank,
             1,
@@ -173,10 +175,8 @@ fn byte(text: &[u8], j: usize) -> u8 {
 fn stored(texts: &mut [u8], from: usize, text: &[u8])
     requires { (from ≤ 262208) × (262272 ≤ length texts.old) }
 {
-    let mut j = 0;
-    while j < ROOM {
+    for j in 0..ROOM {
         texts[from + j] = byte(text, j);
-        j += 1;
     }
 }
 

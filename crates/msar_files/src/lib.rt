@@ -1,6 +1,10 @@
 // The files that the program reads.
 #![tactic(auto)]
 
+use host_io::{EprintBytes, Opened};
+use std::io::Input;
+use std::rt::Files;
+
 mod csv;
 pub mod keep;
 mod lines;
@@ -8,16 +12,21 @@ pub mod model;
 mod plain;
 pub mod series;
 
-// The descriptor of a file, `-` being standard input; below 0 where it cannot be opened, which is said by then.
-pub fn opened(path: &[u8]) -> i32 {
+// A file, `-` being standard input; none where it cannot be opened, which is said by then.
+pub fn opened<R: Files + Input + EprintBytes>(
+    rt: &R,
+    path: &[u8],
+) -> Option<Opened<R::File, R::Reader>> {
     if text_words::same(path, b"-") {
-        return libc::STDIN_FILENO;
+        return Some(Opened::Input(rt.reader()));
     }
-    let fd = os::open_read(path);
-    if fd < 0 {
-        msar_say::failed(b"cannot open ", path);
+    match host_io::open_read(rt, path) {
+        Ok(file) => Some(Opened::File(file)),
+        Err(error) => {
+            msar_say::failed(rt, b"cannot open ", path, error);
+            None
+        }
     }
-    fd
 }
 
 // Columns count from 1.

@@ -2,10 +2,13 @@
 ghost use Rattle.std.specs.Prelude.{◌≡◌};
 ghost use Rattle.text_words.specs.Places.{Leads};
 
+use host_io::EprintBytes;
+use std::io;
+use std::io::Read;
+
 // What was read of the file and not yet taken: of the block's first `have` bytes those from `at` on.
 #[derive(Clone, Copy)]
 pub struct Source {
-    pub fd: i32,
     pub at: usize,
     pub have: usize,
 }
@@ -15,7 +18,7 @@ pub enum State {
     Whole,
     End,
     Long,
-    Failed,
+    Failed(io::Error),
 }
 
 // The next line: its first `length` bytes stand in the caller's memory.
@@ -30,7 +33,7 @@ pub struct Taken {
 enum Byte {
     One(u8),
     End,
-    Failed,
+    Failed(io::Error),
 }
 
 #[derive(Clone, Copy)]
@@ -39,47 +42,38 @@ struct Step {
     byte: Byte,
 }
 
-pub fn of(fd: i32) -> Source {
-    Source { fd, at: 0, have: 0 }
+pub fn of() -> Source {
+    Source { at: 0, have: 0 }
 }
 
 // The first byte of the next block.
-fn refilled(s: Source, block: &mut [u8; 4096]) -> Step {
-    let got = libc::read(s.fd, block);
-    if got < 0 {
-        return Step {
+fn refilled(input: &mut impl Read, s: Source, block: &mut [u8; 4096]) -> Step {
+    match input.read(block) {
+        Err(error) => Step {
             source: s,
-            byte: Byte::Failed,
-        };
-    }
-    if got == 0 {
-        return Step {
+            byte: Byte::Failed(error),
+        },
+        Ok(0) => Step {
             source: s,
             byte: Byte::End,
-        };
-    }
-    let have = io::count(got, block);
-    Step {
-        source: Source {
-            fd: s.fd,
-            at: 1,
-            have,
         },
-        byte: Byte::One(block[0]),
+        Ok(have) => Step {
+            source: Source { at: 1, have },
+            byte: Byte::One(block[0]),
+        },
     }
 }
 
-fn next_byte(s: Source, block: &mut [u8; 4096]) -> Step {
+fn next_byte(input: &mut impl Read, s: Source, block: &mut [u8; 4096]) -> Step {
     let at = s.at;
     if at >= s.have {
-        return refilled(s, block);
+        return refilled(input, s, block);
     }
     if at >= 4096 {
-        return refilled(s, block);
+        return refilled(input, s, block);
     }
     Step {
         source: Source {
-            fd: s.fd,
             at: at + 1,
             have: s.have,
         },
@@ -108,14 +102,14 @@ fn ended(source: Source, length: usize) -> Taken
 }
 
 // After as many bytes as a line may have it ends, or it is too long.
-fn full(s: Source, block: &mut [u8; 4096], length: usize) -> Taken
+fn full(input: &mut impl Read, s: Source, block: &mut [u8; 4096], length: usize) -> Taken
     ensures { result.length ≡ length }
 {
-    let step = next_byte(s, block);
+    let step = next_byte(input, s, block);
     let after = step.source;
     let b = step.byte;
     match b {
-        Byte::Failed => found(after, State::Failed, length),
+        Byte::Failed(error) => found(after, State::Failed(error), length),
         Byte::End => ended(after, length),
         Byte::One(c) => {
             if c == b'\n' {
@@ -127,18 +121,17 @@ fn full(s: Source, block: &mut [u8; 4096], length: usize) -> Taken
 }
 
 // Puts the next line into `line`, which is as long as a line may be.
-pub fn next(source: Source, block: &mut [u8; 4096], line: &mut [u8]) -> Taken
+pub fn next(input: &mut impl Read, source: Source, block: &mut [u8; 4096], line: &mut [u8]) -> Taken
     ensures { Leads result.length line.new }
 {
     let mut s = source;
-    let mut length = 0;
-    while length < line.len() {
-        let step = next_byte(s, block);
+    for length in 0..line.len() {
+        let step = next_byte(input, s, block);
         s = step.source;
         let b = step.byte;
         match b {
-            Byte::Failed => {
-                return found(s, State::Failed, length);
+            Byte::Failed(error) => {
+                return found(s, State::Failed(error), length);
             }
             Byte::End => {
                 return ended(s, length);
@@ -150,9 +143,8 @@ pub fn next(source: Source, block: &mut [u8; 4096], line: &mut [u8]) -> Taken
                 line[length] = c;
             }
         }
-        length += 1;
     }
-    full(s, block, length)
+    full(input, s, block, line.len())
 }
 
 // ---- the course of a reading
@@ -165,12 +157,13 @@ pub enum Course {
 }
 
 // What the state means for the reading. What is at fault is said by then.
-pub fn told(state: State, path: &[u8], number: u64) -> Course {
+pub fn told(rt: &impl EprintBytes, state: State, path: &[u8], number: u64) -> Course {
     match state {
         State::Whole => Course::Going,
         State::End => Course::Done,
         State::Long => {
             msar_say::file::expected(
+                rt,
                 path,
                 number,
                 4097,
@@ -178,8 +171,8 @@ pub fn told(state: State, path: &[u8], number: u64) -> Course {
             );
             Course::Stopped
         }
-        State::Failed => {
-            msar_say::failed(b"cannot read ", path);
+        State::Failed(error) => {
+            msar_say::failed(rt, b"cannot read ", path, error);
             Course::Stopped
         }
     }

@@ -2,6 +2,9 @@
 use crate::keep::{Layout, Progress, Told};
 use crate::lines::{Course, Source};
 use crate::{csv, keep, lines, plain};
+use host_io::EprintBytes;
+use std::io;
+use std::io::Read;
 
 // What was at fault is said by then. Readings are counted past the room for them.
 #[derive(Clone, Copy)]
@@ -20,6 +23,7 @@ struct Turn {
 
 // What the line says.
 fn told(
+    rt: &impl EprintBytes,
     path: &[u8],
     number: u64,
     text: &[u8],
@@ -29,13 +33,14 @@ fn told(
     kept: &[u8],
 ) -> Told {
     if layout.csv {
-        return csv::line(path, number, text, p, layout, name, kept);
+        return csv::line(rt, path, number, text, p, layout, name, kept);
     }
-    plain::line(path, number, text, p)
+    plain::line(rt, path, number, text, p)
 }
 
 // Reads a line, without a byte order mark.
 fn line_read(
+    rt: &impl EprintBytes,
     path: &[u8],
     number: u64,
     whole: &[u8],
@@ -48,13 +53,15 @@ fn line_read(
     texts: &mut [u8],
 ) -> Told {
     let from = text_words::mark(whole, number == 1);
-    let next = told(path, number, &whole[from..], p, layout, name, kept);
+    let next = told(rt, path, number, &whole[from..], p, layout, name, kept);
     keep::all(&whole[from..], number, next, series, numbers, texts);
     next
 }
 
 // Takes the next line.
 fn one_line(
+    rt: &impl EprintBytes,
+    input: &mut impl Read,
     path: &[u8],
     number: u64,
     source: Source,
@@ -67,12 +74,12 @@ fn one_line(
     numbers: &mut [u64],
     texts: &mut [u8],
 ) -> Turn {
-    let mut line = io::buffer();
-    let taken = lines::next(source, block, &mut line);
+    let mut line = host_io::buffer();
+    let taken = lines::next(input, source, block, &mut line);
     let after = taken.source;
     let n = taken.length;
     let state = taken.state;
-    let course = lines::told(state, path, number);
+    let course = lines::told(rt, state, path, number);
     let Course::Going = course else {
         return Turn {
             source: after,
@@ -81,6 +88,7 @@ fn one_line(
         };
     };
     let next = line_read(
+        rt,
         path,
         number,
         &line[..n],
@@ -118,9 +126,10 @@ fn first_of(numbers: &[u64]) -> u64 {
 }
 
 // Without a heading nothing says that a comma parts cells and does not cut numbers.
-fn ended(path: &[u8], p: Progress, numbers: &[u64]) -> Reading {
+fn ended(rt: &impl EprintBytes, path: &[u8], p: Progress, numbers: &[u64]) -> Reading {
     if p.doubtful & (p.count > 0) {
         msar_say::file::wrong(
+            rt,
             path,
             first_of(numbers),
             1,
@@ -138,7 +147,8 @@ fn ended(path: &[u8], p: Progress, numbers: &[u64]) -> Reading {
 // The readings of the file, with their lines and the kept cells, as far as there is room. `name` and `kept` are the words that ask for
 // the columns. A proved loop has to end, and nothing says that the file does: it stops after 2 ^ 32 lines.
 pub fn read(
-    fd: i32,
+    rt: &impl EprintBytes,
+    input: &mut impl Read,
     path: &[u8],
     layout: Layout,
     name: &[u8],
@@ -147,29 +157,32 @@ pub fn read(
     numbers: &mut [u64],
     texts: &mut [u8],
 ) -> Reading {
-    let mut block = io::buffer();
-    let mut source = lines::of(fd);
+    let mut block = host_io::buffer();
+    let mut source = lines::of();
     let mut p = keep::nothing();
-    let mut number: u64 = 1;
-    while number < 0x1_0000_0000 {
+    for number in 1..0x1_0000_0000u64 {
         let t = one_line(
-            path, number, source, p, layout, name, kept, &mut block, series, numbers, texts,
+            rt, input, path, number, source, p, layout, name, kept, &mut block, series, numbers,
+            texts,
         );
         source = t.source;
         p = t.progress;
         let course = t.course;
         match course {
-            Course::Going => {
-                number += 1;
-            }
+            Course::Going => {}
             Course::Done => {
-                return ended(path, p, numbers);
+                return ended(rt, path, p, numbers);
             }
             Course::Stopped => {
                 return bad();
             }
         }
     }
-    msar_say::failed(b"too many lines in ", path);
+    msar_say::failed(
+        rt,
+        b"too many lines in ",
+        path,
+        io::Error::from(io::ErrorKind::FileTooLarge),
+    );
     bad()
 }

@@ -2,6 +2,7 @@
 ghost use Rattle.text_words.specs.Places.{Leads};
 
 use fit::Fitted;
+use host_io::EprintBytes;
 use msar_say::put;
 use msar_say::put::Text;
 use params::MsarParams;
@@ -90,7 +91,7 @@ fn ended(out: &mut Text, n: usize, collapsed: bool) -> usize
 }
 
 // How far it is, on standard error.
-fn told(number: usize, starts: usize, f: Fitted) {
+fn told(rt: &impl EprintBytes, number: usize, starts: usize, f: Fitted) {
     let check = f.check;
     let mut out = put::blank();
     let n = put::bytes(&mut out, 0, b"msar: note: start ");
@@ -99,17 +100,18 @@ fn told(number: usize, starts: usize, f: Fitted) {
     let n = put::whole(&mut out, n, starts as u64);
     if !has_passed(check) {
         let n = put::bytes(&mut out, n, b" came to no fit\n");
-        io::write_all(libc::STDERR_FILENO, &out[..n]);
+        host_io::complain(rt, &out[..n]);
         return;
     }
     let n = put::bytes(&mut out, n, b": log-likelihood ");
     let n = put::figure(&mut out, n, f.loglik, 10);
     let params = f.params;
     let n = ended(&mut out, n, msar_start::is_collapsed(params));
-    io::write_all(libc::STDERR_FILENO, &out[..n]);
+    host_io::complain(rt, &out[..n]);
 }
 
 fn one_more(
+    rt: &impl EprintBytes,
     kept: Best,
     number: usize,
     starts: usize,
@@ -130,11 +132,12 @@ fn one_more(
         q.ar_blocks,
     );
     let f = fit::fit(s, y, start, max_iter, tol, work, smoothed);
-    told(number, starts, f);
+    told(rt, number, starts, f);
     better(kept, f, number)
 }
 
 fn others(
+    rt: &impl EprintBytes,
     first: Best,
     starts: usize,
     s: MsarSpec,
@@ -146,16 +149,15 @@ fn others(
     smoothed: &mut [f64],
 ) -> Best {
     let mut kept = first;
-    let mut i = 1;
-    while i < starts {
-        kept = one_more(kept, i, starts, s, y, q, max_iter, tol, work, smoothed);
-        i += 1;
+    for i in 1..starts {
+        kept = one_more(rt, kept, i, starts, s, y, q, max_iter, tol, work, smoothed);
     }
     kept
 }
 
 // The best of so many starts.
 pub fn of(
+    rt: &impl EprintBytes,
     starts: usize,
     s: MsarSpec,
     y: &[f64],
@@ -174,6 +176,6 @@ pub fn of(
     if is_handed_in(check, q) {
         return first;
     }
-    told(0, starts, f);
-    others(first, starts, s, y, q, max_iter, tol, work, smoothed)
+    told(rt, 0, starts, f);
+    others(rt, first, starts, s, y, q, max_iter, tol, work, smoothed)
 }

@@ -7,6 +7,7 @@ mod best;
 mod order;
 
 use best::Best;
+use host_io::EprintBytes;
 use msar_commands::refusals::has_passed;
 use msar_out::model::Head;
 use msar_out::{model, row_start};
@@ -14,6 +15,7 @@ use msar_say::put;
 use params::MsarParams;
 use refusal::{Check, Refusal};
 use spec::MsarSpec;
+use std::io;
 use text_words::least;
 
 // The rule of a log-likelihood beside a fit. The fit has passed its checks, so the order is at least 1, where both rules
@@ -72,7 +74,7 @@ fn head_of(b: Best, loglik: f64, rows: usize, starts: usize) -> Head
 }
 
 // Where the log-likelihood ended lower than it began.
-fn note_fall(began: f64, ended: f64) {
+fn note_fall(rt: &impl EprintBytes, began: f64, ended: f64) {
     if !(ended < began) {
         return;
     }
@@ -91,7 +93,7 @@ fn note_fall(began: f64, ended: f64) {
         n,
         b": EM overshot; a smaller --max-iter, another start or --starts may do better\n",
     );
-    io::write_all(libc::STDERR_FILENO, &out[..n]);
+    host_io::complain(rt, &out[..n]);
 }
 
 // The log-likelihood of the parameters; `otherwise` where there is none.
@@ -108,21 +110,31 @@ fn loglik_at(s: MsarSpec, y: &[f64], q: MsarParams, otherwise: f64, work: &mut [
 // ---- fit
 
 // The parameters in the order of the start's means, with their log-likelihood, whose last bits the order may change.
-fn write(s: MsarSpec, y: &[f64], q: MsarParams, own: &[u8], ways: Ways, b: Best, work: &mut [f64]) {
+fn write(
+    rt: &(impl Print + EprintBytes),
+    s: MsarSpec,
+    y: &[f64],
+    q: MsarParams,
+    own: &[u8],
+    ways: Ways,
+    b: Best,
+    work: &mut [f64],
+) {
     let reached = b.params;
     let rows = rows_of(y.len(), s.order);
-    note_fall(loglik_at(s, y, q, b.loglik, work), b.loglik);
+    note_fall(rt, loglik_at(s, y, q, b.loglik, work), b.loglik);
     let ordered = order::as_in(q, reached);
     if ways.as_reached | !ordered.moved {
-        model::fitted(reached, head_of(b, b.loglik, rows, ways.starts), own);
+        model::fitted(rt, reached, head_of(b, b.loglik, rows, ways.starts), own);
         return;
     }
     let params = ordered.params;
     let loglik = loglik_at(s, y, params, b.loglik, work);
     msar_say::note(
+        rt,
         b"the fit came to its regimes in another order of means than the MODEL has: they are in the MODEL's order again (--as-reached leaves them)",
     );
-    model::fitted(params, head_of(b, loglik, rows, ways.starts), own);
+    model::fitted(rt, params, head_of(b, loglik, rows, ways.starts), own);
 }
 
 // Whether a reading has no likelihood under the parameters reached, and has one under the MODEL.
@@ -137,6 +149,7 @@ fn is_astray(check: Check, s: MsarSpec, y: &[f64], q: MsarParams, work: &mut [f6
 
 // The fit from the MODEL q, whose text is `own`.
 pub fn fit(
+    rt: &(impl Print + EprintBytes),
     s: MsarSpec,
     y: &[f64],
     q: MsarParams,
@@ -148,6 +161,7 @@ pub fn fit(
     smoothed: &mut [f64],
 ) {
     let b = best::of(
+        rt,
         ways.starts,
         s,
         y,
@@ -160,26 +174,37 @@ pub fn fit(
     let check = b.check;
     if is_astray(check, s, y, q, work) {
         msar_say::error(
+            rt,
             b"EM went astray: under the parameters that it reached a reading has no likelihood (refusal 23), under the MODEL it has; try --starts 8 or a smaller --max-iter, or take the MODEL as it is",
         );
         return;
     }
-    if has_passed(check, s, q, y, numbers, readings) {
-        write(s, y, q, own, ways, b, work);
+    if has_passed(rt, check, s, q, y, numbers, readings) {
+        write(rt, s, y, q, own, ways, b, work);
     }
 }
 
 // ---- start
 
 // The checks of the series, and that it is long enough and varies.
-fn can_start(s: MsarSpec, q: MsarParams, y: &[f64], numbers: &[u64], readings: usize) -> bool {
+fn can_start(
+    rt: &impl EprintBytes,
+    s: MsarSpec,
+    q: MsarParams,
+    y: &[f64],
+    numbers: &[u64],
+    readings: usize,
+) -> bool {
     let bound = binding::bind(s, y);
     let check = bound.check;
-    if !has_passed(check, s, q, y, numbers, readings) {
+    if !has_passed(rt, check, s, q, y, numbers, readings) {
         return false;
     }
     if y.len() / 2 < s.k_regimes {
-        msar_say::error(b"start needs at least twice as many readings as regimes");
+        msar_say::error(
+            rt,
+            b"start needs at least twice as many readings as regimes",
+        );
         return false;
     }
     if y.len() > 4096 {
@@ -188,12 +213,12 @@ fn can_start(s: MsarSpec, q: MsarParams, y: &[f64], numbers: &[u64], readings: u
     let variance = em_sample_variance::sample_variance(y);
     if !number::is_usable(variance) {
         let r = Refusal::SampleVariance(variance);
-        return has_passed(Check::Failed(r), s, q, y, numbers, readings);
+        return has_passed(rt, Check::Failed(r), s, q, y, numbers, readings);
     }
     true
 }
 
-fn told(readings: usize) -> bool {
+fn told(rt: &impl Print, readings: usize) -> io::Result<()> {
     let mut out = put::blank();
     let n = put::bytes(&mut out, 0, b"# start: worked out by msar start from ");
     let n = put::whole(&mut out, n, readings as u64);
@@ -202,11 +227,17 @@ fn told(readings: usize) -> bool {
         n,
         b" readings, for msar fit to begin with; regime 0 has the lowest mean\n",
     );
-    io::write_all(libc::STDOUT_FILENO, &out[..n])
+    rt.write_all(&out[..n])
+}
+
+fn told_model(rt: &impl Print, readings: usize, q: MsarParams) -> io::Result<()> {
+    told(rt, readings)?;
+    model::plain(rt, q)
 }
 
 // A MODEL of k regimes and this order, worked out from the series.
 pub fn start(
+    rt: &(impl Print + EprintBytes),
     y: &[f64],
     numbers: &[u64],
     readings: usize,
@@ -221,7 +252,7 @@ pub fn start(
         switching_variance,
     };
     let q = msar_start::recipe(0, y, k, order, switching_variance, 1);
-    if can_start(s, q, y, numbers, readings) {
-        msar_out::is_written(told(readings) && model::plain(q));
+    if can_start(rt, s, q, y, numbers, readings) {
+        msar_out::is_written(rt, told_model(rt, readings, q));
     }
 }

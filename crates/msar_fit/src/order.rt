@@ -19,10 +19,8 @@ fn rank(means: &[f64; 16], k: usize, i: usize) -> usize
     requires { k ≤ 16 }
 {
     let mut count = 0;
-    let mut j = 0;
-    while j < k {
+    for j in 0..k {
         count = count_of(count, is_before(means, j, i));
-        j += 1;
     }
     count
 }
@@ -42,12 +40,10 @@ fn count_of(count: usize, so: bool) -> usize {
 fn is_tied(means: &[f64; 16], k: usize, i: usize) -> bool
     requires { k ≤ 16 }
 {
-    let mut j = 0;
-    while j < k {
+    for j in 0..k {
         if (j != i) & (entry(means, j) == entry(means, i)) {
             return true;
         }
-        j += 1;
     }
     false
 }
@@ -56,12 +52,10 @@ fn is_tied(means: &[f64; 16], k: usize, i: usize) -> bool
 fn has_tie(means: &[f64; 16], k: usize) -> bool
     requires { k ≤ 16 }
 {
-    let mut i = 0;
-    while i < k {
+    for i in 0..k {
         if is_tied(means, k, i) {
             return true;
         }
-        i += 1;
     }
     false
 }
@@ -71,12 +65,10 @@ fn holder(means: &[f64; 16], k: usize, wanted: usize) -> usize
     requires { k ≤ 16 }
     ensures { result < 16 }
 {
-    let mut j = 0;
-    while j < k {
+    for j in 0..k {
         if rank(means, k, j) == wanted {
             return j;
         }
-        j += 1;
     }
     0
 }
@@ -86,10 +78,8 @@ fn sources(start: &[f64; 16], reached: &[f64; 16], k: usize) -> [usize; 16]
     requires { k ≤ 16 }
 {
     let mut from = [0; 16];
-    let mut i = 0;
-    while i < k {
+    for i in 0..k {
         from[i] = holder(reached, k, rank(start, k, i));
-        i += 1;
     }
     from
 }
@@ -97,12 +87,10 @@ fn sources(start: &[f64; 16], reached: &[f64; 16], k: usize) -> [usize; 16]
 fn is_moved(from: [usize; 16], k: usize) -> bool
     requires { k ≤ 16 }
 {
-    let mut i = 0;
-    while i < k {
+    for i in 0..k {
         if from[i] != i {
             return true;
         }
-        i += 1;
     }
     false
 }
@@ -114,10 +102,8 @@ fn picked(values: &[f64], at: usize, from: [usize; 16], n: usize) -> [f64; 16]
     requires { (at ≤ 65536) × (n ≤ 16) }
 {
     let mut row = [0.0; 16];
-    let mut j = 0;
-    while j < n {
+    for j in 0..n {
         row[j] = entry(values, at + least(from[j], 15));
-        j += 1;
     }
     row
 }
@@ -127,10 +113,8 @@ fn copied(values: &[f64], at: usize, n: usize) -> [f64; 16]
     requires { (at ≤ 65536) × (n ≤ 16) }
 {
     let mut row = [0.0; 16];
-    let mut j = 0;
-    while j < n {
+    for j in 0..n {
         row[j] = entry(values, at + j);
-        j += 1;
     }
     row
 }
@@ -140,13 +124,11 @@ fn transition(old: &[f64], from: [usize; 16], k: usize) -> [f64; 256]
     requires { k ≤ 16 }
 {
     let mut table = [0.0; 256];
-    let mut i = 0;
-    while i < k {
+    for i in 0..k {
         let source = row_start(least(from[i], 15), k);
         let row = picked(old, source, from, k);
         let grown = text_model_line::with_row(table, i, k, row);
         table = grown;
-        i += 1;
     }
     table
 }
@@ -156,13 +138,11 @@ fn blocks(old: &[f64], from: [usize; 16], k: usize, p: usize) -> [f64; 112]
     requires { (k ≤ 16) × (p ≤ 7) }
 {
     let mut table = [0.0; 112];
-    let mut i = 0;
-    while i < k {
+    for i in 0..k {
         let source = row_start(least(from[i], 15), p);
         let row = copied(old, source, p);
         let grown = text_model_line::with_block(table, i, p, row);
         table = grown;
-        i += 1;
     }
     table
 }

@@ -3,15 +3,21 @@
 
 ghost use Rattle.std.specs.Prelude.{◌<◌, ◌≤◌};
 
+use host_io::EprintBytes;
+use std::io;
+
 pub mod model;
 pub mod table;
 
 // Says so where standard output takes no more, as on a full disk.
-pub fn is_written(went: bool) -> bool {
-    if !went {
-        msar_say::failed(b"cannot write ", b"standard output");
+pub fn is_written(rt: &impl EprintBytes, went: io::Result<()>) -> bool {
+    match went {
+        Ok(()) => true,
+        Err(error) => {
+            msar_say::failed(rt, b"cannot write ", b"standard output", error);
+            false
+        }
     }
-    went
 }
 
 pub fn entry(table: &[f64], i: usize) -> f64 {

@@ -3,9 +3,11 @@ ghost use Rattle.std.specs.Prelude.{◌<◌, ◌≤◌};
 ghost use Rattle.text_words.specs.Places.{Leads};
 
 use crate::{entry, is_written, row_start};
+use host_io::EprintBytes;
 use msar_say::put;
 use msar_say::put::Text;
 use params::MsarParams;
+use std::io;
 use text_model_line::Kind;
 use text_words::least;
 
@@ -38,11 +40,9 @@ fn numbers(
     ensures { Leads result out.new }
 {
     let mut n = put::bytes(out, at, keyword);
-    let mut j = 0;
-    while j < count {
+    for j in 0..count {
         n = put::bytes(out, n, b" ");
         n = put::number(out, n, entry(values, from + j));
-        j += 1;
     }
     put::bytes(out, n, b"")
 }
@@ -86,35 +86,37 @@ fn of_kind(out: &mut Text, q: MsarParams, kind: Kind, row: usize) -> usize
 }
 
 // The line, and behind it what stands behind the numbers of the MODEL that was read.
-fn write_line(q: MsarParams, kind: Kind, row: usize, behind: &[u8]) -> bool {
+fn write_line(
+    rt: &impl Print,
+    q: MsarParams,
+    kind: Kind,
+    row: usize,
+    behind: &[u8],
+) -> io::Result<()> {
     let mut out = put::blank();
     let n = of_kind(&mut out, q, kind, row);
     let n = put::bytes(&mut out, n, behind);
     let n = put::bytes(&mut out, n, b"\n");
-    io::write_all(libc::STDOUT_FILENO, &out[..n])
+    rt.write_all(&out[..n])
 }
 
 // ---- a MODEL without one to follow
 
-fn rows(q: MsarParams, count: usize, table: bool) -> bool {
-    let mut row = 0;
-    while row < count {
+fn rows(rt: &impl Print, q: MsarParams, count: usize, table: bool) -> io::Result<()> {
+    for row in 0..count {
         let kind = if table { Kind::Transition } else { Kind::Ar };
-        if !write_line(q, kind, row, b"") {
-            return false;
-        }
-        row += 1;
+        write_line(rt, q, kind, row, b"")?;
     }
-    true
+    Ok(())
 }
 
-pub fn plain(q: MsarParams) -> bool {
-    write_line(q, Kind::Regimes, 0, b"")
-        && write_line(q, Kind::Order, 0, b"")
-        && rows(q, least(q.means_count, 16), true)
-        && write_line(q, Kind::Means, 0, b"")
-        && rows(q, least(q.ar_blocks, 16), false)
-        && write_line(q, Kind::Variances, 0, b"")
+pub fn plain(rt: &impl Print, q: MsarParams) -> io::Result<()> {
+    write_line(rt, q, Kind::Regimes, 0, b"")?;
+    write_line(rt, q, Kind::Order, 0, b"")?;
+    rows(rt, q, least(q.means_count, 16), true)?;
+    write_line(rt, q, Kind::Means, 0, b"")?;
+    rows(rt, q, least(q.ar_blocks, 16), false)?;
+    write_line(rt, q, Kind::Variances, 0, b"")
 }
 
 // ---- a MODEL that follows the one that was read, line by line
@@ -139,39 +141,47 @@ fn is_kind_of_block(kind: Kind) -> bool {
 }
 
 // A comment, or a blank line. What an earlier fit put in front is left away, and what `start` did.
-fn as_it_stands(line: &[u8]) -> bool {
+fn as_it_stands(rt: &impl Print, line: &[u8]) -> io::Result<()> {
     if text_words::begins(line, b"# fit:") {
-        return true;
+        return Ok(());
     }
     if text_words::begins(line, b"# start:") {
-        return true;
+        return Ok(());
     }
-    io::write_all(libc::STDOUT_FILENO, line) && io::write_all(libc::STDOUT_FILENO, b"\n")
+    rt.write_all(line)?;
+    rt.write_all(b"\n")
 }
 
 // The line's comment stays behind its numbers.
-fn followed(q: MsarParams, line: &[u8], kind: Kind, row: usize) -> bool {
+fn followed(rt: &impl Print, q: MsarParams, line: &[u8], kind: Kind, row: usize) -> io::Result<()> {
     let from = text_words::comment(line);
     if from >= line.len() {
-        return write_line(q, kind, row, b"");
+        return write_line(rt, q, kind, row, b"");
     }
     let mut out = put::blank();
     let n = of_kind(&mut out, q, kind, row);
     let n = put::bytes(&mut out, n, b"   ");
     let n = put::bytes(&mut out, n, &line[from..]);
     let n = put::bytes(&mut out, n, b"\n");
-    io::write_all(libc::STDOUT_FILENO, &out[..n])
+    rt.write_all(&out[..n])
 }
 
-fn one_line(q: MsarParams, line: &[u8], kind: Kind, rows: usize, blocks: usize) -> bool {
+fn one_line(
+    rt: &impl Print,
+    q: MsarParams,
+    line: &[u8],
+    kind: Kind,
+    rows: usize,
+    blocks: usize,
+) -> io::Result<()> {
     match kind {
-        Kind::Other => as_it_stands(line),
-        Kind::Transition => followed(q, line, kind, rows),
-        Kind::Ar => followed(q, line, kind, blocks),
-        Kind::Regimes => followed(q, line, kind, 0),
-        Kind::Order => followed(q, line, kind, 0),
-        Kind::Means => followed(q, line, kind, 0),
-        Kind::Variances => followed(q, line, kind, 0),
+        Kind::Other => as_it_stands(rt, line),
+        Kind::Transition => followed(rt, q, line, kind, rows),
+        Kind::Ar => followed(rt, q, line, kind, blocks),
+        Kind::Regimes => followed(rt, q, line, kind, 0),
+        Kind::Order => followed(rt, q, line, kind, 0),
+        Kind::Means => followed(rt, q, line, kind, 0),
+        Kind::Variances => followed(rt, q, line, kind, 0),
     }
 }
 
@@ -186,21 +196,19 @@ fn counted(n: usize, is_one: bool) -> usize
 }
 
 // The parameters q in the lines of `own`, the MODEL that was read.
-fn following(q: MsarParams, own: &[u8]) -> bool {
+fn following(rt: &impl Print, q: MsarParams, own: &[u8]) -> io::Result<()> {
     let mut at = 0;
     let mut rows = 0;
     let mut blocks = 0;
     while at < own.len() {
         let end = text_words::line_end(own, at);
         let kind = kind_of(&own[at..end]);
-        if !one_line(q, &own[at..end], kind, rows, blocks) {
-            return false;
-        }
+        one_line(rt, q, &own[at..end], kind, rows, blocks)?;
         rows = counted(rows, is_kind_of_table(kind));
         blocks = counted(blocks, is_kind_of_block(kind));
         at = end + 1;
     }
-    true
+    Ok(())
 }
 
 // ---- in front
@@ -240,7 +248,7 @@ fn told_end(out: &mut Text, at: usize, converged: bool) -> usize
     put::bytes(out, at, b"# fit: converged no\n")
 }
 
-fn write_head(h: Head) -> bool {
+fn write_head(rt: &impl Print, h: Head) -> io::Result<()> {
     let mut out = put::blank();
     let n = noted(&mut out, 0, b"# fit: log-likelihood ", h.loglik);
     let n = counted_as(&mut out, n, b"# fit: iterations ", h.iterations);
@@ -250,14 +258,19 @@ fn write_head(h: Head) -> bool {
     let n = noted(&mut out, n, b"# fit: AIC ", h.aic);
     let n = noted(&mut out, n, b"# fit: BIC ", h.bic);
     let n = told_starts(&mut out, n, h);
-    io::write_all(libc::STDOUT_FILENO, &out[..n])
+    rt.write_all(&out[..n])
+}
+
+// In the lines of `own`; plain where they were too many to be kept.
+fn in_lines(rt: &impl Print, q: MsarParams, h: Head, own: &[u8]) -> io::Result<()> {
+    write_head(rt, h)?;
+    if own.len() == 0 {
+        return plain(rt, q);
+    }
+    following(rt, q, own)
 }
 
 // The fitted MODEL, in the lines of `own`; plain where they were too many to be kept.
-pub fn fitted(q: MsarParams, h: Head, own: &[u8]) {
-    if own.len() == 0 {
-        is_written(write_head(h) && plain(q));
-        return;
-    }
-    is_written(write_head(h) && following(q, own));
+pub fn fitted(rt: &(impl Print + EprintBytes), q: MsarParams, h: Head, own: &[u8]) {
+    is_written(rt, in_lines(rt, q, h, own));
 }

@@ -3,9 +3,11 @@ ghost use Rattle.std.specs.Prelude.{◌<◌, ◌≤◌, length};
 ghost use Rattle.text_words.specs.Places.{Leads};
 
 use crate::{entry, is_written, row_start};
+use host_io::EprintBytes;
 use msar_say::put;
 use msar_say::put::Text;
 use msar_verdict::{Finding, Verdict};
+use std::io;
 use text_words::{Span, least};
 
 // How a table is written: with so many digits, 0 for all 17; with a kept cell beside each reading, or without, and whether that has a
@@ -78,11 +80,9 @@ fn labels(out: &mut Text, at: usize, k: usize) -> usize
     ensures { Leads result out.new }
 {
     let mut n = at;
-    let mut j = 0;
-    while j < k {
+    for j in 0..k {
         n = put::bytes(out, n, b",p");
         n = put::whole(out, n, j as u64);
-        j += 1;
     }
     put::bytes(out, n, b"\n")
 }
@@ -93,27 +93,26 @@ fn shares(out: &mut Text, at: usize, table: &[f64], from: usize, k: usize, digit
     ensures { Leads result out.new }
 {
     let mut n = at;
-    let mut j = 0;
-    while j < k {
+    for j in 0..k {
         n = put::bytes(out, n, b",");
         n = put::figure(out, n, entry(table, from + j), digits);
-        j += 1;
     }
     put::bytes(out, n, b"\n")
 }
 
 // The names: reading, the kept column's, value, p0, p1, ..
-fn header(k: usize, texts: &[u8], style: Style) -> bool {
+fn header(rt: &impl Print, k: usize, texts: &[u8], style: Style) -> io::Result<()> {
     let mut out = put::blank();
     let n = put::bytes(&mut out, 0, b"reading");
     let n = kept_name(&mut out, n, texts, style);
     let n = put::bytes(&mut out, n, b",value");
     let n = labels(&mut out, n, k);
-    io::write_all(libc::STDOUT_FILENO, &out[..n])
+    rt.write_all(&out[..n])
 }
 
 // Row number `row`: the reading with number t is x.
 fn one_row(
+    rt: &impl Print,
     row: usize,
     t: usize,
     x: f64,
@@ -121,7 +120,7 @@ fn one_row(
     k: usize,
     texts: &[u8],
     style: Style,
-) -> bool
+) -> io::Result<()>
     requires { (row < 4096) × (k ≤ 16) }
 {
     let mut out = put::blank();
@@ -130,32 +129,61 @@ fn one_row(
     let n = put::bytes(&mut out, n, b",");
     let n = put::figure(&mut out, n, x, style.digits);
     let n = shares(&mut out, n, table, row_start(row, k), k, style.digits);
-    io::write_all(libc::STDOUT_FILENO, &out[..n])
+    rt.write_all(&out[..n])
 }
 
 // A row for each reading from number `order` on.
-fn rows(y: &[f64], order: usize, table: &[f64], k: usize, texts: &[u8], style: Style) -> bool
+fn rows(
+    rt: &impl Print,
+    y: &[f64],
+    order: usize,
+    table: &[f64],
+    k: usize,
+    texts: &[u8],
+    style: Style,
+) -> io::Result<()>
     requires { (order ≤ 4096) × (k ≤ 16) }
 {
-    let mut row = 0;
-    while row < 4096 {
+    for row in 0..4096usize {
         let t = row + order;
         if t >= y.len() {
-            return true;
+            return Ok(());
         }
-        if !one_row(row, t, y[t], table, k, texts, style) {
-            return false;
-        }
-        row += 1;
+        one_row(rt, row, t, y[t], table, k, texts, style)?;
     }
-    true
+    Ok(())
+}
+
+// The names, and the rows.
+fn headed_rows(
+    rt: &impl Print,
+    y: &[f64],
+    order: usize,
+    table: &[f64],
+    k: usize,
+    texts: &[u8],
+    style: Style,
+) -> io::Result<()>
+    requires { (order ≤ 4096) × (k ≤ 16) }
+{
+    header(rt, k, texts, style)?;
+    rows(rt, y, order, table, k, texts, style)
 }
 
 // The probabilities of k labels at each reading from number `order` on.
-pub fn probabilities(y: &[f64], order: usize, table: &[f64], k: usize, texts: &[u8], style: Style) {
+pub fn probabilities(
+    rt: &(impl Print + EprintBytes),
+    y: &[f64],
+    order: usize,
+    table: &[f64],
+    k: usize,
+    texts: &[u8],
+    style: Style,
+) {
     let regimes = least(k, 16);
     is_written(
-        header(regimes, texts, style) && rows(y, least(order, 4096), table, regimes, texts, style),
+        rt,
+        headed_rows(rt, y, least(order, 4096), table, regimes, texts, style),
     );
 }
 
@@ -196,23 +224,24 @@ fn since(
     kept(out, n, texts, t, style)
 }
 
-pub fn verdict_names(texts: &[u8], style: Style) -> bool {
+pub fn verdict_names(rt: &impl Print, texts: &[u8], style: Style) -> io::Result<()> {
     let mut out = put::blank();
     let n = put::bytes(&mut out, 0, b"regime,verdict,since,line");
     let n = kept_name(&mut out, n, texts, style);
     let n = put::bytes(&mut out, n, b",readings,needed,probability\n");
-    io::write_all(libc::STDOUT_FILENO, &out[..n])
+    rt.write_all(&out[..n])
 }
 
 // What was found of a regime; its run begins with reading t, on this line.
 pub fn verdict(
+    rt: &impl Print,
     regime: usize,
     found: Finding,
     t: usize,
     line: u64,
     texts: &[u8],
     style: Style,
-) -> bool {
+) -> io::Result<()> {
     let verdict = found.verdict;
     let mut out = put::blank();
     let n = put::whole(&mut out, 0, regime as u64);
@@ -225,24 +254,30 @@ pub fn verdict(
     let n = put::bytes(&mut out, n, b",");
     let n = put::figure(&mut out, n, found.share, style.digits);
     let n = put::bytes(&mut out, n, b"\n");
-    io::write_all(libc::STDOUT_FILENO, &out[..n])
+    rt.write_all(&out[..n])
 }
 
 // ---- the rest
 
 // Two numbers under their names.
-pub fn loglike(readings: usize, loglik: f64, digits: usize) {
+pub fn loglike(rt: &(impl Print + EprintBytes), readings: usize, loglik: f64, digits: usize) {
     let mut out = put::blank();
     let n = put::bytes(&mut out, 0, b"readings,loglik\n");
     let n = put::whole(&mut out, n, readings as u64);
     let n = put::bytes(&mut out, n, b",");
     let n = put::figure(&mut out, n, loglik, digits);
     let n = put::bytes(&mut out, n, b"\n");
-    is_written(io::write_all(libc::STDOUT_FILENO, &out[..n]));
+    is_written(rt, rt.write_all(&out[..n]));
 }
 
 // The shape of a model, and the longest series that every command takes for it.
-pub fn shape(k: usize, order: usize, windows: usize, longest: usize) {
+pub fn shape(
+    rt: &(impl Print + EprintBytes),
+    k: usize,
+    order: usize,
+    windows: usize,
+    longest: usize,
+) {
     let mut out = put::blank();
     let n = put::bytes(&mut out, 0, b"regimes,order,windows,longest\n");
     let n = put::whole(&mut out, n, k as u64);
@@ -253,7 +288,7 @@ pub fn shape(k: usize, order: usize, windows: usize, longest: usize) {
     let n = put::bytes(&mut out, n, b",");
     let n = put::whole(&mut out, n, longest as u64);
     let n = put::bytes(&mut out, n, b"\n");
-    is_written(io::write_all(libc::STDOUT_FILENO, &out[..n]));
+    is_written(rt, rt.write_all(&out[..n]));
 }
 
 fn duration(out: &mut Text, at: usize, label: usize, x: f64, digits: usize) -> usize
@@ -270,17 +305,15 @@ fn all_durations(out: &mut Text, values: [f64; 16], k: usize, digits: usize) -> 
     ensures { Leads result out.new }
 {
     let mut n = put::bytes(out, 0, b"regime,duration\n");
-    let mut j = 0;
-    while j < k {
+    for j in 0..k {
         n = duration(out, n, j, values[j], digits);
-        j += 1;
     }
     put::bytes(out, n, b"")
 }
 
 // A row for each label.
-pub fn durations(values: [f64; 16], k: usize, digits: usize) {
+pub fn durations(rt: &(impl Print + EprintBytes), values: [f64; 16], k: usize, digits: usize) {
     let mut out = put::blank();
     let n = all_durations(&mut out, values, least(k, 16), digits);
-    is_written(io::write_all(libc::STDOUT_FILENO, &out[..n]));
+    is_written(rt, rt.write_all(&out[..n]));
 }

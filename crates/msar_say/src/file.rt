@@ -3,6 +3,7 @@ ghost use Rattle.text_words.specs.Places.{Leads};
 
 use crate::put;
 use crate::put::Text;
+use host_io::EprintBytes;
 use text_no_number::Why;
 
 // The place.
@@ -18,34 +19,51 @@ pub fn at(out: &mut Text, path: &[u8], line: u64, column: u64) -> usize
     put::bytes(out, n, b": ")
 }
 
-pub fn wrong(path: &[u8], line: u64, column: u64, what: &[u8]) {
-    wrong_of(path, line, column, what, b"", b"");
+pub fn wrong(rt: &impl EprintBytes, path: &[u8], line: u64, column: u64, what: &[u8]) {
+    wrong_of(rt, path, line, column, what, b"", b"");
 }
 
 // What is said of a text that was found there or asked for, before it and behind it.
-pub fn wrong_of(path: &[u8], line: u64, column: u64, before: &[u8], text: &[u8], behind: &[u8]) {
+pub fn wrong_of(
+    rt: &impl EprintBytes,
+    path: &[u8],
+    line: u64,
+    column: u64,
+    before: &[u8],
+    text: &[u8],
+    behind: &[u8],
+) {
     let mut out = put::blank();
     let n = at(&mut out, path, line, column);
     let n = put::bytes(&mut out, n, before);
     let n = put::bytes(&mut out, n, text);
     let n = put::bytes(&mut out, n, behind);
     let n = put::bytes(&mut out, n, b"\n");
-    io::write_all(libc::STDERR_FILENO, &out[..n]);
+    host_io::complain(rt, &out[..n]);
 }
 
 // The same of a text that stands between back quotes.
-pub fn found(path: &[u8], line: u64, column: u64, before: &[u8], text: &[u8], behind: &[u8]) {
+pub fn found(
+    rt: &impl EprintBytes,
+    path: &[u8],
+    line: u64,
+    column: u64,
+    before: &[u8],
+    text: &[u8],
+    behind: &[u8],
+) {
     let mut out = put::blank();
     let n = at(&mut out, path, line, column);
     let n = put::bytes(&mut out, n, before);
     let n = put::quoted(&mut out, n, text);
     let n = put::bytes(&mut out, n, behind);
     let n = put::bytes(&mut out, n, b"\n");
-    io::write_all(libc::STDERR_FILENO, &out[..n]);
+    host_io::complain(rt, &out[..n]);
 }
 
 // Of two such texts, the second behind the words between them.
 pub fn found_both(
+    rt: &impl EprintBytes,
     path: &[u8],
     line: u64,
     before: &[u8],
@@ -62,11 +80,12 @@ pub fn found_both(
     let n = put::quoted(&mut out, n, other);
     let n = put::bytes(&mut out, n, behind);
     let n = put::bytes(&mut out, n, b"\n");
-    io::write_all(libc::STDERR_FILENO, &out[..n]);
+    host_io::complain(rt, &out[..n]);
 }
 
 // Of two counts, at a line.
 pub fn counted(
+    rt: &impl EprintBytes,
     path: &[u8],
     line: u64,
     before: &[u8],
@@ -83,11 +102,11 @@ pub fn counted(
     let n = put::whole(&mut out, n, j as u64);
     let n = put::bytes(&mut out, n, behind);
     let n = put::bytes(&mut out, n, b"\n");
-    io::write_all(libc::STDERR_FILENO, &out[..n]);
+    host_io::complain(rt, &out[..n]);
 }
 
 // Which column was read, by its place from 1 and its heading.
-pub fn column_read(path: &[u8], column: u64, headed: bool, heading: &[u8]) {
+pub fn column_read(rt: &impl EprintBytes, path: &[u8], column: u64, headed: bool, heading: &[u8]) {
     let mut out = put::blank();
     let n = put::bytes(&mut out, 0, b"msar: note: ");
     let n = put::name(&mut out, n, path);
@@ -95,7 +114,7 @@ pub fn column_read(path: &[u8], column: u64, headed: bool, heading: &[u8]) {
     let n = put::whole(&mut out, n, column);
     let n = heading_of(&mut out, n, headed, heading);
     let n = put::bytes(&mut out, n, b"\n");
-    io::write_all(libc::STDERR_FILENO, &out[..n]);
+    host_io::complain(rt, &out[..n]);
 }
 
 fn heading_of(out: &mut Text, n: usize, headed: bool, heading: &[u8]) -> usize
@@ -108,19 +127,26 @@ fn heading_of(out: &mut Text, n: usize, headed: bool, heading: &[u8]) -> usize
     put::quoted(out, n, heading)
 }
 
-pub fn expected(path: &[u8], line: u64, column: u64, what: &[u8]) {
-    wrong_of(path, line, column, b"expected ", what, b"");
+pub fn expected(rt: &impl EprintBytes, path: &[u8], line: u64, column: u64, what: &[u8]) {
+    wrong_of(rt, path, line, column, b"expected ", what, b"");
 }
 
 // With a count.
-pub fn expected_count(path: &[u8], line: u64, column: u64, what: &[u8], count: usize) {
+pub fn expected_count(
+    rt: &impl EprintBytes,
+    path: &[u8],
+    line: u64,
+    column: u64,
+    what: &[u8],
+    count: usize,
+) {
     let mut out = put::blank();
     let n = at(&mut out, path, line, column);
     let n = put::bytes(&mut out, n, b"expected ");
     let n = put::bytes(&mut out, n, what);
     let n = put::whole(&mut out, n, count as u64);
     let n = put::bytes(&mut out, n, b"\n");
-    io::write_all(libc::STDERR_FILENO, &out[..n]);
+    host_io::complain(rt, &out[..n]);
 }
 
 // ---- what is no number
@@ -167,12 +193,12 @@ fn advice(out: &mut Text, n: usize, why: Why) -> usize
 }
 
 // The text, and why it is none.
-pub fn no_number(path: &[u8], line: u64, column: u64, text: &[u8]) {
+pub fn no_number(rt: &impl EprintBytes, path: &[u8], line: u64, column: u64, text: &[u8]) {
     let mut out = put::blank();
     let n = at(&mut out, path, line, column);
     let n = put::quoted(&mut out, n, text);
     let n = put::bytes(&mut out, n, b" is no number");
     let n = advice(&mut out, n, text_no_number::reason(text));
     let n = put::bytes(&mut out, n, b"\n");
-    io::write_all(libc::STDERR_FILENO, &out[..n]);
+    host_io::complain(rt, &out[..n]);
 }

@@ -1,6 +1,8 @@
 // Pieces of a message or of a row of output, put behind each other. What finds no room is left out; the largest message fits.
 ghost use Rattle.text_words.specs.Places.{Leads};
 
+use itoa::Buffer;
+
 // Room for a path and a message, and for a model of 16 regimes, of 8,100 bytes.
 pub type Text = [u8; 16384];
 
@@ -13,9 +15,8 @@ pub fn bytes(out: &mut Text, at: usize, text: &[u8]) -> usize
 pub fn whole(out: &mut Text, at: usize, n: u64) -> usize
     ensures { Leads result out.new }
 {
-    let mut digits = [0u8; 20];
-    let k = io::decimal(n, &mut digits);
-    text_words::put(out, at, &digits[..k])
+    let mut digits = Buffer::new();
+    text_words::put(out, at, digits.format(n).as_bytes())
 }
 
 // 17 significant digits, from which the same bits are read back.
@@ -73,16 +74,14 @@ fn start_of(out: &mut Text, at: usize, text: &[u8]) -> usize
     ensures { Leads result out.new }
 {
     let mut piece = [0u8; 48];
-    let mut i = 0;
-    while i < text.len() {
+    for i in 0..text.len() {
         if i >= 48 {
             let n = text_words::put(out, at, &piece);
             return bytes(out, n, b"..");
         }
         piece[i] = shown(text[i]);
-        i += 1;
     }
-    first_of(out, at, &piece, i)
+    first_of(out, at, &piece, text.len())
 }
 
 // The first n bytes.

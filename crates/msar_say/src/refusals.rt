@@ -3,6 +3,7 @@ ghost use Rattle.text_words.specs.Places.{Leads};
 
 use crate::put;
 use crate::put::Text;
+use host_io::EprintBytes;
 use refusal::Refusal;
 
 // ---- pieces
@@ -278,19 +279,19 @@ fn begun(out: &mut Text, number: usize) -> usize
 }
 
 // A refusal of a model of k regimes and this order, with a hint behind it.
-pub fn refused(r: Refusal, k: usize, order: usize, hint: &[u8]) {
+pub fn refused(rt: &impl EprintBytes, r: Refusal, k: usize, order: usize, hint: &[u8]) {
     let mut out = put::blank();
     let n = begun(&mut out, r.number());
     let n = meaning(&mut out, n, r, k, order);
     let n = put::bytes(&mut out, n, hint);
     let n = put::bytes(&mut out, n, b"\n");
-    io::write_all(libc::STDERR_FILENO, &out[..n]);
+    host_io::complain(rt, &out[..n]);
 }
 
 // ---- a reading
 
 // A reading that is refused: 6 where it is not finite, else 23.
-pub fn reading(number: usize, t: usize, line: u64, x: f64) {
+pub fn reading(rt: &impl EprintBytes, number: usize, t: usize, line: u64, x: f64) {
     let mut out = put::blank();
     let n = begun(&mut out, number);
     let n = count(&mut out, n, b"reading ", t, b" (line ");
@@ -298,7 +299,7 @@ pub fn reading(number: usize, t: usize, line: u64, x: f64) {
     let n = put::bytes(&mut out, n, b") is ");
     let n = put::figure(&mut out, n, x, 15);
     let n = explained(&mut out, n, number);
-    io::write_all(libc::STDERR_FILENO, &out[..n]);
+    host_io::complain(rt, &out[..n]);
 }
 
 fn explained(out: &mut Text, n: usize, number: usize) -> usize

@@ -7,57 +7,61 @@
 
 ghost use Rattle.std.specs.Prelude.{◌≤◌};
 
+use std::io::Input;
 use text_decimal_read::Parsed;
 
 // How many bytes of the line there are before the first space.
 fn text_length(line: &[u8; 96]) -> usize
     ensures { result ≤ 95 }
 {
-    let mut n = 0;
-    while n < 95 {
+    for n in 0..95usize {
         if line[n] == b' ' {
             return n;
         }
-        n += 1;
     }
-    n
+    95
 }
 
-fn answer_number(x: f64) -> bool {
+fn answer_number(rt: &impl Print, x: f64) -> bool {
     let w = text_decimal_write::write(x);
     let bytes = w.bytes;
     let n = w.length;
-    run_hex::write(number::pattern(x), b' ') && io::write_all(1, &bytes[0..n])
+    run_hex::write(rt, number::pattern(x), b' ') && host_io::write_all(rt, &bytes[0..n])
 }
 
-fn answer_short(x: f64, digits: usize) -> bool {
+fn answer_short(rt: &impl Print, x: f64, digits: usize) -> bool {
     let w = text_decimal_short::short(x, digits);
     let bytes = w.bytes;
     let n = w.length;
-    io::write_all(1, b" ") && io::write_all(1, &bytes[0..n]) && io::write_all(1, b"\n")
+    host_io::write_all(rt, b" ")
+        && host_io::write_all(rt, &bytes[0..n])
+        && host_io::write_all(rt, b"\n")
 }
 
-fn answer_wrong(at: usize) -> bool {
-    io::write_all(1, b"wrong ") && io::print_decimal(1, at as u64) && io::write_all(1, b"\n")
+fn answer_wrong(rt: &impl Print, at: usize) -> bool {
+    host_io::write_all(rt, b"wrong ")
+        && host_io::print_decimal(rt, at as u64)
+        && host_io::write_all(rt, b"\n")
 }
 
 // Answers the next line, its short text with so many digits, and says whether to go on.
-fn next(digits: usize) -> bool {
+fn next(rt: &(impl Print + Input), digits: usize) -> bool {
     let mut line = [0u8; 96];
-    if io::read_full(0, &mut line) != 96 {
+    if host_io::read_full(rt, &mut line) != 96 {
         return false;
     }
     let n = text_length(&line);
     match text_decimal_read::read(&line[0..n]) {
-        Parsed::Number(x) => answer_number(x) && answer_short(x, digits),
-        Parsed::Wrong(at) => answer_wrong(at),
+        Parsed::Number(x) => answer_number(rt, x) && answer_short(rt, x, digits),
+        Parsed::Wrong(at) => answer_wrong(rt, at),
     }
 }
 
 // A proved loop has to end, and nothing says that the input does: it stops after 2 ^ 40 lines, which no run reaches.
-fn main() {
-    let mut lines: u64 = 0;
-    while lines < 0x100_0000_0000 && next((lines % 19) as usize) {
-        lines += 1;
+fn main(rt: HostRuntime) {
+    for lines in 0..0x100_0000_0000u64 {
+        if !next(&rt, (lines % 19) as usize) {
+            return;
+        }
     }
 }

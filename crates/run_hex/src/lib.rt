@@ -3,6 +3,8 @@
 
 ghost use Rattle.std.specs.Prelude.{◌≤◌, length};
 
+use std::io::Input;
+
 #[derive(Clone, Copy)]
 pub enum Line {
     Pattern(u64),
@@ -23,14 +25,12 @@ fn digit(c: u8) -> u64 {
 // What a line says.
 fn pattern(text: &[u8; 17]) -> Line {
     let mut n: u64 = 0;
-    let mut i = 0;
-    while i < 16 {
+    for i in 0..16usize {
         let d = digit(text[i]);
         if d > 15 {
             return Line::Bad;
         }
         n = (n << 4) | d;
-        i += 1;
     }
     if text[16] != b'\n' {
         return Line::Bad;
@@ -39,39 +39,37 @@ fn pattern(text: &[u8; 17]) -> Line {
 }
 
 // The next line of standard input. One that the input's end cuts off has zeros for what is missing, and so is bad.
-pub fn read() -> Line {
+pub fn read(rt: &impl Input) -> Line {
     let mut text = [0u8; 17];
-    if io::read_full(0, &mut text) == 0 {
+    if host_io::read_full(rt, &mut text) == 0 {
         return Line::End;
     }
     pattern(&text)
 }
 
 // Puts the next `count` numbers of the input into `out`, up to the first line that has none, and says how many it put.
-pub fn numbers(out: &mut [f64], count: usize) -> usize
+pub fn numbers(rt: &impl Input, out: &mut [f64], count: usize) -> usize
     requires { count ≤ length out.old }
     ensures { result ≤ count }
 {
-    let mut i = 0;
-    while i < count {
-        let Line::Pattern(n) = read() else {
+    for i in 0..count {
+        let Line::Pattern(n) = read(rt) else {
             return i;
         };
         out[i] = number::of_pattern(n);
-        i += 1;
     }
-    i
+    count
 }
 
 // Writes 16 digits and the byte that ends them, and says whether that went through.
-pub fn write(n: u64, end: u8) -> bool {
+pub fn write(rt: &impl Print, n: u64, end: u8) -> bool {
     let after = [end];
-    io::print_hex(1, n, 16) && io::write_all(1, &after)
+    host_io::print_hex(rt, n) && host_io::write_all(rt, &after)
 }
 
 // Says that line n of the input, counted from 1, is none that the program takes.
-pub fn bad_line(n: u64) {
-    io::write_all(1, b"bad line ");
-    io::print_decimal(1, n);
-    io::write_all(1, b"\n");
+pub fn bad_line(rt: &impl Print, n: u64) {
+    host_io::write_all(rt, b"bad line ");
+    host_io::print_decimal(rt, n);
+    host_io::write_all(rt, b"\n");
 }

@@ -14,6 +14,7 @@ use prediction::Rule;
 use refusal::Check;
 use run_hex::Line;
 use spec::MsarSpec;
+use std::io::Input;
 
 // How far a probability may be; a log-likelihood may be so far for each 1 of its size, and once more.
 const NEAR: f64 = 1e-13;
@@ -49,7 +50,7 @@ struct Found {
 // ---- the row of document 02's example
 
 // At order zero by rule 2 no step is read, so that the transition stands for the steps too.
-fn show_row() {
+fn show_row(rt: &impl Print) {
     let mut transition = [0.0; 256];
     transition[0] = 0.5;
     transition[1] = 0.25;
@@ -69,22 +70,22 @@ fn show_row() {
         1,
         &mut row,
     );
-    run_hex::write(number::pattern(row[0]), b' ');
-    run_hex::write(number::pattern(row[1]), b'\n');
+    run_hex::write(rt, number::pattern(row[0]), b' ');
+    run_hex::write(rt, number::pattern(row[1]), b'\n');
 }
 
 // ---- reading
 
 // Fills the first places of `out`, and says whether there was room, and as many numbers.
-fn fill(out: &mut [f64], count: usize) -> bool {
+fn fill(rt: &impl Input, out: &mut [f64], count: usize) -> bool {
     if count > out.len() {
         return false;
     }
-    run_hex::numbers(out, count) == count
+    run_hex::numbers(rt, out, count) == count
 }
 
-fn whole() -> usize {
-    match run_hex::read() {
+fn whole(rt: &impl Input) -> usize {
+    match run_hex::read(rt) {
         Line::Pattern(n) => n as usize,
         Line::Bad => 0,
         Line::End => 0,
@@ -102,13 +103,13 @@ fn cells(rows: usize, k: usize) -> usize {
     rows * k
 }
 
-fn read_model(k: usize, variances_count: usize) -> Given {
+fn read_model(rt: &impl Input, k: usize, variances_count: usize) -> Given {
     let mut transition = [0.0; 256];
     let mut means = [0.0; 16];
     let mut variances = [0.0; 16];
-    let good = fill(&mut transition, cells(k, k))
-        && fill(&mut means, k)
-        && fill(&mut variances, variances_count);
+    let good = fill(rt, &mut transition, cells(k, k))
+        && fill(rt, &mut means, k)
+        && fill(rt, &mut variances, variances_count);
     Given {
         good,
         spec: MsarSpec {
@@ -132,11 +133,13 @@ fn read_model(k: usize, variances_count: usize) -> Given {
     }
 }
 
-fn expected(count: usize) -> Told {
+fn expected(rt: &impl Input, count: usize) -> Told {
     let mut loglik = [0.0; 1];
     let mut filtered = [0.0; 64];
     let mut smoothed = [0.0; 64];
-    let good = fill(&mut loglik, 1) && fill(&mut filtered, count) && fill(&mut smoothed, count);
+    let good = fill(rt, &mut loglik, 1)
+        && fill(rt, &mut filtered, count)
+        && fill(rt, &mut smoothed, count);
     Told {
         good,
         loglik: loglik[0],
@@ -178,12 +181,10 @@ fn answered(c: Given, rule: usize, series: &[f64]) -> Told {
 
 // Whether each number is near the other's; what a case does not use is zero in both.
 fn near_tables(a: &[f64; 64], b: &[f64; 64]) -> bool {
-    let mut i = 0;
-    while i < 64 {
+    for i in 0..64usize {
         if !(number::magnitude(a[i] - b[i]) <= NEAR) {
             return false;
         }
-        i += 1;
     }
     true
 }
@@ -220,18 +221,18 @@ fn unread() -> [f64; 16]
     [0.0; 16]
 }
 
-fn case(k: usize) -> Found {
-    let variances_count = whole();
-    let readings = whole();
-    let c = read_model(k, variances_count);
+fn case(rt: &impl Input, k: usize) -> Found {
+    let variances_count = whole(rt);
+    let readings = whole(rt);
+    let c = read_model(rt, k, variances_count);
     let mut series = unread();
     if readings > 16 {
         return no_case();
     }
-    if run_hex::numbers(&mut series, readings) < readings {
+    if run_hex::numbers(rt, &mut series, readings) < readings {
         return no_case();
     }
-    let e = expected(cells(readings, k));
+    let e = expected(rt, cells(readings, k));
     judged(c, &series[..readings], e)
 }
 
@@ -241,40 +242,38 @@ fn one(b: bool) -> u64
     if b { 1 } else { 0 }
 }
 
-fn say(before: &[u8], n: u64, after: &[u8]) {
-    io::write_all(1, before);
-    io::print_decimal(1, n);
-    io::write_all(1, after);
+fn say(rt: &impl Print, before: &[u8], n: u64, after: &[u8]) {
+    host_io::write_all(rt, before);
+    host_io::print_decimal(rt, n);
+    host_io::write_all(rt, after);
 }
 
-fn bad(cases: u64) {
-    say(b"bad case ", cases, b"\n");
+fn bad(rt: &impl Print, cases: u64) {
+    say(rt, b"bad case ", cases, b"\n");
 }
 
-fn end(cases: u64, far_one: u64, far_two: u64) {
-    say(b"", cases, b" cases; ");
-    say(b"far by rule 2: ", far_two, b"; ");
-    say(b"far by rule 1: ", far_one, b"\n");
+fn end(rt: &impl Print, cases: u64, far_one: u64, far_two: u64) {
+    say(rt, b"", cases, b" cases; ");
+    say(rt, b"far by rule 2: ", far_two, b"; ");
+    say(rt, b"far by rule 1: ", far_one, b"\n");
 }
 
 // The file has fewer than 1,000 cases.
-fn main() {
-    show_row();
-    let mut cases: u64 = 0;
+fn main(rt: HostRuntime) {
+    show_row(&rt);
     let mut far_one: u64 = 0;
     let mut far_two: u64 = 0;
-    while cases < 1000 {
-        let Line::Pattern(k) = run_hex::read() else {
-            end(cases, far_one, far_two);
+    for cases in 0..1000u64 {
+        let Line::Pattern(k) = run_hex::read(&rt) else {
+            end(&rt, cases, far_one, far_two);
             return;
         };
-        let found = case(k as usize);
+        let found = case(&rt, k as usize);
         if !found.good {
-            bad(cases);
+            bad(&rt, cases);
             return;
         }
         far_one += one(found.one);
         far_two += one(found.two);
-        cases += 1;
     }
 }

@@ -45,27 +45,27 @@ fn coefficients(a: f64, b: f64) -> [f64; 112] {
     values
 }
 
-fn refused(r: Refusal) {
-    io::print_decimal(1, r.number() as u64);
-    io::write_all(1, b" ");
-    io::print_decimal(1, r.place() as u64);
-    io::write_all(1, b" ");
-    io::print_hex(1, number::pattern(r.value()), 16);
-    io::write_all(1, b"\n");
+fn refused(rt: &impl Print, r: Refusal) {
+    host_io::print_decimal(rt, r.number() as u64);
+    host_io::write_all(rt, b" ");
+    host_io::print_decimal(rt, r.place() as u64);
+    host_io::write_all(rt, b" ");
+    host_io::print_hex(rt, number::pattern(r.value()));
+    host_io::write_all(rt, b"\n");
 }
 
-fn show(q: MsarParams) {
+fn show(rt: &impl Print, q: MsarParams) {
     let built = MsarParams::new(q);
     let check = built.check;
     match check {
         Check::Passed => {
-            io::write_all(1, b"passed\n");
+            host_io::write_all(rt, b"passed\n");
         }
-        Check::Failed(r) => refused(r),
+        Check::Failed(r) => refused(rt, r),
     }
 }
 
-fn count(k_regimes: usize, order: usize) {
+fn count(rt: &impl Print, k_regimes: usize, order: usize) {
     let s = MsarSpec {
         k_regimes,
         order,
@@ -74,10 +74,10 @@ fn count(k_regimes: usize, order: usize) {
     };
     match s.expanded_states() {
         Windows::Count(m) => {
-            io::print_decimal(1, m as u64);
-            io::write_all(1, b" windows\n");
+            host_io::print_decimal(rt, m as u64);
+            host_io::write_all(rt, b" windows\n");
         }
-        Windows::Refused(r) => refused(r),
+        Windows::Refused(r) => refused(rt, r),
     }
 }
 
@@ -117,55 +117,55 @@ fn variances(q: MsarParams, count: usize, a: f64, b: f64) -> MsarParams {
 
 // ---- the lines
 
-fn means_and_transition(q: MsarParams, nan: f64, infinity: f64) {
-    show(means(q, 0, 0.0, 0.0));
-    show(means(q, 1, 0.0, 0.0));
-    show(means(q, 2, 0.0, nan));
-    show(means(q, 2, -infinity, 1.0));
-    show(transition(q, 0.75, 0.0, -0.25, 1.0));
-    show(transition(q, 0.75, 1.00000002, 0.25, 0.0));
-    show(transition(q, 0.75, 0.0, 0.25, nan));
-    show(transition(q, 0.75, 1.00000001, 0.25, 0.0));
-    show(transition(q, 1.0, 0.5, 0.0, 0.49));
-    show(transition(q, 0.9, 0.9, 0.2, 0.2));
+fn means_and_transition(rt: &impl Print, q: MsarParams, nan: f64, infinity: f64) {
+    show(rt, means(q, 0, 0.0, 0.0));
+    show(rt, means(q, 1, 0.0, 0.0));
+    show(rt, means(q, 2, 0.0, nan));
+    show(rt, means(q, 2, -infinity, 1.0));
+    show(rt, transition(q, 0.75, 0.0, -0.25, 1.0));
+    show(rt, transition(q, 0.75, 1.00000002, 0.25, 0.0));
+    show(rt, transition(q, 0.75, 0.0, 0.25, nan));
+    show(rt, transition(q, 0.75, 1.00000001, 0.25, 0.0));
+    show(rt, transition(q, 1.0, 0.5, 0.0, 0.49));
+    show(rt, transition(q, 0.9, 0.9, 0.2, 0.2));
 }
 
-fn ar_and_variances(q: MsarParams, nan: f64, infinity: f64) {
-    show(ar(q, 0, 0.0, 0.0));
-    show(ar(q, 3, 0.0, 0.0));
-    show(ar(q, 2, 0.5, infinity));
-    show(variances(q, 0, 0.0, 0.0));
-    show(variances(q, 3, 1.0, 0.0));
-    show(variances(q, 2, 1.0, 0.0));
-    show(variances(q, 2, -1.0, 1.0));
-    show(variances(q, 1, nan, 0.0));
-    show(variances(q, 1, 5e-324, 0.0));
+fn ar_and_variances(rt: &impl Print, q: MsarParams, nan: f64, infinity: f64) {
+    show(rt, ar(q, 0, 0.0, 0.0));
+    show(rt, ar(q, 3, 0.0, 0.0));
+    show(rt, ar(q, 2, 0.5, infinity));
+    show(rt, variances(q, 0, 0.0, 0.0));
+    show(rt, variances(q, 3, 1.0, 0.0));
+    show(rt, variances(q, 2, 1.0, 0.0));
+    show(rt, variances(q, 2, -1.0, 1.0));
+    show(rt, variances(q, 1, nan, 0.0));
+    show(rt, variances(q, 1, 5e-324, 0.0));
 }
 
 // Two parts at fault: the first of document 01's order answers.
-fn together(q: MsarParams, nan: f64) {
+fn together(rt: &impl Print, q: MsarParams, nan: f64) {
     let off = transition(q, 0.75, 0.0, -0.25, 0.5);
-    show(means(off, 2, 0.0, nan));
-    show(ar(off, 0, 0.0, 0.0));
-    show(ar(transition(q, 0.75, 0.0, 0.25, 0.5), 1, nan, 0.0));
-    show(variances(ar(q, 0, 0.0, 0.0), 3, 1.0, 0.0));
-    show(variances(ar(q, 1, nan, 0.0), 1, 0.0, 0.0));
+    show(rt, means(off, 2, 0.0, nan));
+    show(rt, ar(off, 0, 0.0, 0.0));
+    show(rt, ar(transition(q, 0.75, 0.0, 0.25, 0.5), 1, nan, 0.0));
+    show(rt, variances(ar(q, 0, 0.0, 0.0), 3, 1.0, 0.0));
+    show(rt, variances(ar(q, 1, nan, 0.0), 1, 0.0, 0.0));
 }
 
-fn main() {
+fn main(rt: HostRuntime) {
     let nan = 0.0 / 0.0;
     let infinity = 1.0 / 0.0;
     let q = good();
-    show(q);
-    means_and_transition(q, nan, infinity);
-    ar_and_variances(q, nan, infinity);
-    together(q, nan);
-    count(0, 0);
-    count(1, 3);
-    count(2, 1);
-    count(2, 7);
-    count(6, 2);
-    count(16, 1);
-    count(2, 12);
-    count(16, 18446744073709551615);
+    show(&rt, q);
+    means_and_transition(&rt, q, nan, infinity);
+    ar_and_variances(&rt, q, nan, infinity);
+    together(&rt, q, nan);
+    count(&rt, 0, 0);
+    count(&rt, 1, 3);
+    count(&rt, 2, 1);
+    count(&rt, 2, 7);
+    count(&rt, 6, 2);
+    count(&rt, 16, 1);
+    count(&rt, 2, 12);
+    count(&rt, 16, 18446744073709551615);
 }

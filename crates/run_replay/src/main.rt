@@ -23,6 +23,7 @@ use params::MsarParams;
 use refusal::Check;
 use run_hex::Line;
 use spec::MsarSpec;
+use std::io::Input;
 
 // What memory holds before it is lent: no probability, and no other number that a call of the file writes.
 const MARK: f64 = 987654321.125;
@@ -163,12 +164,10 @@ fn same_numbers(a: &[f64], b: &[f64]) -> bool {
     if b.len() != a.len() {
         return false;
     }
-    let mut i = 0;
-    while i < a.len() {
+    for i in 0..a.len() {
         if !same_number(a[i], b[i]) {
             return false;
         }
-        i += 1;
     }
     true
 }
@@ -239,26 +238,26 @@ fn least(a: usize, b: usize) -> usize
     if a < b { a } else { b }
 }
 
-fn decimal(n: usize, end: u8) {
+fn decimal(rt: &impl Print, n: usize, end: u8) {
     let after = [end];
-    io::print_decimal(1, n as u64);
-    io::write_all(1, &after);
+    host_io::print_decimal(rt, n as u64);
+    host_io::write_all(rt, &after);
 }
 
-fn show_answer(a: Fitted) {
+fn show_answer(rt: &impl Print, a: Fitted) {
     let check = a.check;
     match check {
         Check::Passed => {
-            io::write_all(1, b"0 0 ");
-            run_hex::write(0, b' ');
+            host_io::write_all(rt, b"0 0 ");
+            run_hex::write(rt, 0, b' ');
         }
         Check::Failed(r) => {
-            decimal(r.number(), b' ');
-            decimal(r.place(), b' ');
-            run_hex::write(number::pattern(r.value()), b' ');
+            decimal(rt, r.number(), b' ');
+            decimal(rt, r.place(), b' ');
+            run_hex::write(rt, number::pattern(r.value()), b' ');
         }
     }
-    run_hex::write(number::pattern(a.loglik), b'\n');
+    run_hex::write(rt, number::pattern(a.loglik), b'\n');
 }
 
 // Whether a place is +0, or else whether it was written.
@@ -273,14 +272,12 @@ fn holds(x: f64, zero: bool) -> bool {
 fn leading(memory: &[f64], zero: bool) -> usize
     ensures { result ≤ length memory.now }
 {
-    let mut i = 0;
-    while i < memory.len() {
+    for i in 0..memory.len() {
         if !holds(memory[i], zero) {
             return i;
         }
-        i += 1;
     }
-    i
+    memory.len()
 }
 
 // 0 for a place that holds `blank`, else 1.
@@ -295,93 +292,87 @@ fn past(memory: &[f64], from: usize, blank: f64) -> usize
     ensures { result ≤ length memory.now }
 {
     let mut count = 0;
-    let mut i = from;
-    while i < memory.len() {
+    for i in from..memory.len() {
         count += one(memory[i], blank);
-        i += 1;
     }
     count
 }
 
 // Writes the first n numbers.
-fn show_numbers(memory: &[f64], n: usize)
+fn show_numbers(rt: &impl Print, memory: &[f64], n: usize)
     requires { n ≤ length memory.now }
 {
-    let mut i = 0;
-    while i < n {
-        run_hex::write(number::pattern(memory[i]), b'\n');
-        i += 1;
+    for i in 0..n {
+        run_hex::write(rt, number::pattern(memory[i]), b'\n');
     }
 }
 
-fn show_work(memory: &[f64]) {
+fn show_work(rt: &impl Print, memory: &[f64]) {
     let zeros = leading(memory, true);
-    decimal(zeros, b' ');
-    decimal(past(memory, zeros, MARK), b'\n');
+    decimal(rt, zeros, b' ');
+    decimal(rt, past(memory, zeros, MARK), b'\n');
 }
 
-fn show_table(memory: &[f64]) {
+fn show_table(rt: &impl Print, memory: &[f64]) {
     let n = leading(memory, false);
-    show_numbers(memory, n);
-    decimal(past(memory, n, MARK), b'\n');
+    show_numbers(rt, memory, n);
+    decimal(rt, past(memory, n, MARK), b'\n');
 }
 
 // Writes the first numbers of a part, as many as its count says, and counts those of the others that are not +0.
-fn show_part(part: &[f64], count: usize) -> usize
+fn show_part(rt: &impl Print, part: &[f64], count: usize) -> usize
     ensures { result ≤ length part.now }
 {
     let n = least(count, part.len());
-    show_numbers(part, n);
+    show_numbers(rt, part, n);
     past(part, n, 0.0)
 }
 
-fn show_params(q: MsarParams) {
-    let transition = show_part(&q.transition, q.transition_count);
-    let means = show_part(&q.means, q.means_count);
-    let ar = show_part(&q.ar, q.ar_count);
-    let variances = show_part(&q.variances, q.variances_count);
-    decimal(transition + means + ar + variances, b'\n');
+fn show_params(rt: &impl Print, q: MsarParams) {
+    let transition = show_part(rt, &q.transition, q.transition_count);
+    let means = show_part(rt, &q.means, q.means_count);
+    let ar = show_part(rt, &q.ar, q.ar_count);
+    let variances = show_part(rt, &q.variances, q.variances_count);
+    decimal(rt, transition + means + ar + variances, b'\n');
 }
 
 // Writes the lines that the call's case has.
-fn show(which: usize, o: Outcome) {
+fn show(rt: &impl Print, which: usize, o: Outcome) {
     let a = o.fitted;
-    show_answer(a);
+    show_answer(rt, a);
     if which == 4 {
-        decimal(a.iterations, b' ');
-        decimal(if a.converged { 1 } else { 0 }, b'\n');
+        decimal(rt, a.iterations, b' ');
+        decimal(rt, if a.converged { 1 } else { 0 }, b'\n');
     }
-    show_work(&o.work);
+    show_work(rt, &o.work);
     if (which == 2) | (which == 3) {
-        show_table(&o.filtered);
+        show_table(rt, &o.filtered);
     }
     if which > 2 {
-        show_table(&o.smoothed);
+        show_table(rt, &o.smoothed);
     }
     if which == 4 {
-        show_params(a.params);
+        show_params(rt, a.params);
     }
 }
 
 // ---- reading
 
 // Fills `out` with the next whole numbers of the input, and says whether there were as many.
-fn wholes(out: &mut [u64]) -> bool {
-    let mut i = 0;
-    while i < out.len() {
-        let Line::Pattern(n) = run_hex::read() else {
+fn wholes(rt: &impl Input, out: &mut [u64]) -> bool {
+    for i in 0..out.len() {
+        let Line::Pattern(n) = run_hex::read(rt) else {
             return false;
         };
         out[i] = n;
-        i += 1;
     }
     true
 }
 
 // Puts as many numbers of the input into `out` as the count says, but no more than it holds, and says whether there were as many.
-fn part(out: &mut [f64], count: usize) -> bool {
+fn part(rt: &impl Input, out: &mut [f64], count: usize) -> bool {
     let held = least(count, out.len());
-    run_hex::numbers(out, held) == held
+    run_hex::numbers(rt, out, held) == held
 }
 
 fn spec_of(head: &[u64; 15]) -> MsarSpec {
@@ -396,19 +387,19 @@ fn spec_of(head: &[u64; 15]) -> MsarSpec {
 // ---- the cases
 
 // Answers a case both ways.
-fn answer(c: Given, series: &[f64])
+fn answer(rt: &impl Print, c: Given, series: &[f64])
     requires { (c.work ≤ 25600) × (c.filtered ≤ 25600) × (c.smoothed ≤ 25600) }
 {
     let a = ran(false, c, series);
     let b = ran(true, c, series);
     if !(same_outcome(a, b) & same_bound(c.spec, series)) {
-        io::write_all(1, b"the record differs\n");
+        host_io::write_all(rt, b"the record differs\n");
     }
-    show(c.which, a);
+    show(rt, c.which, a);
 }
 
 // Answers a case that lends no more memory than there is.
-fn admitted(c: Given, series: &[f64]) -> bool {
+fn admitted(rt: &impl Print, c: Given, series: &[f64]) -> bool {
     if c.work > 25600 {
         return false;
     }
@@ -418,15 +409,21 @@ fn admitted(c: Given, series: &[f64]) -> bool {
     if c.smoothed > 25600 {
         return false;
     }
-    answer(c, series);
+    answer(rt, c, series);
     true
 }
 
 // Reads what a fit has behind its parameters, and answers the case.
-fn ending(which: usize, head: &[u64; 15], series: &[f64], params: MsarParams) -> bool {
+fn ending(
+    rt: &(impl Print + Input),
+    which: usize,
+    head: &[u64; 15],
+    series: &[f64],
+    params: MsarParams,
+) -> bool {
     let mut last = [0; 2];
     if which == 4 {
-        if !wholes(&mut last) {
+        if !wholes(rt, &mut last) {
             return false;
         }
     }
@@ -441,11 +438,11 @@ fn ending(which: usize, head: &[u64; 15], series: &[f64], params: MsarParams) ->
         filtered: head[5] as usize,
         smoothed: head[6] as usize,
     };
-    admitted(c, series)
+    admitted(rt, c, series)
 }
 
 // Reads the parameters, and answers the case.
-fn parameters(which: usize, head: &[u64; 15], series: &[f64]) -> bool {
+fn parameters(rt: &(impl Print + Input), which: usize, head: &[u64; 15], series: &[f64]) -> bool {
     let mut transition = [0.0; 256];
     let mut means = [0.0; 16];
     let mut ar = [0.0; 112];
@@ -454,10 +451,10 @@ fn parameters(which: usize, head: &[u64; 15], series: &[f64]) -> bool {
     let transition_count = head[9] as usize;
     let ar_count = head[12] as usize;
     let variances_count = head[13] as usize;
-    if !(part(&mut transition, transition_count)
-        && part(&mut means, means_count)
-        && part(&mut ar, ar_count)
-        && part(&mut variances, variances_count))
+    if !(part(rt, &mut transition, transition_count)
+        && part(rt, &mut means, means_count)
+        && part(rt, &mut ar, ar_count)
+        && part(rt, &mut variances, variances_count))
     {
         return false;
     }
@@ -473,7 +470,7 @@ fn parameters(which: usize, head: &[u64; 15], series: &[f64]) -> bool {
         ar_count,
         variances_count,
     };
-    ending(which, head, series, q)
+    ending(rt, which, head, series, q)
 }
 
 // One reading more than a call takes.
@@ -484,50 +481,48 @@ fn unread() -> [f64; 4097]
 }
 
 // Answers a case, and says whether it is one that the program takes.
-fn case(which: usize) -> bool {
+fn case(rt: &(impl Print + Input), which: usize) -> bool {
     if (which < 1) | (which > 4) {
         return false;
     }
     let mut head = [0; 15];
     let mut series = unread();
-    if !wholes(&mut head) {
+    if !wholes(rt, &mut head) {
         return false;
     }
     let readings = head[7] as usize;
     if readings > 4097 {
         return false;
     }
-    if run_hex::numbers(&mut series, readings) < readings {
+    if run_hex::numbers(rt, &mut series, readings) < readings {
         return false;
     }
-    parameters(which, &head, &series[..readings])
+    parameters(rt, which, &head, &series[..readings])
 }
 
-fn bad(cases: u64) {
-    io::write_all(1, b"bad case ");
-    io::print_decimal(1, cases);
-    io::write_all(1, b"\n");
+fn bad(rt: &impl Print, cases: u64) {
+    host_io::write_all(rt, b"bad case ");
+    host_io::print_decimal(rt, cases);
+    host_io::write_all(rt, b"\n");
 }
 
 // A proved loop has to end, and nothing says that the input does: it stops after 2 ^ 32 cases, which no run reaches.
-fn main() {
-    let mut cases: u64 = 0;
-    while cases < 0x1_0000_0000 {
-        match run_hex::read() {
+fn main(rt: HostRuntime) {
+    for cases in 0..0x1_0000_0000u64 {
+        match run_hex::read(&rt) {
             Line::End => {
                 return;
             }
             Line::Bad => {
-                bad(cases);
+                bad(&rt, cases);
                 return;
             }
             Line::Pattern(which) => {
-                if !case(which as usize) {
-                    bad(cases);
+                if !case(&rt, which as usize) {
+                    bad(&rt, cases);
                     return;
                 }
             }
         }
-        cases += 1;
     }
 }

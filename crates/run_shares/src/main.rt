@@ -30,34 +30,34 @@ fn two_by_two(a: f64, b: f64, c: f64, d: f64) -> MsarParams {
     }
 }
 
-fn pattern(x: f64) {
-    io::write_all(1, b" ");
-    io::print_hex(1, number::pattern(x), 16);
+fn pattern(rt: &impl Print, x: f64) {
+    host_io::write_all(rt, b" ");
+    host_io::print_hex(rt, number::pattern(x));
 }
 
-fn show(q: MsarParams) {
+fn show(rt: &impl Print, q: MsarParams) {
     let s = stationary::stationary_shares(q);
     let check = s.check;
     match check {
         Check::Passed => {
-            io::write_all(1, b"shares");
-            pattern(s.values[0]);
-            pattern(s.values[1]);
+            host_io::write_all(rt, b"shares");
+            pattern(rt, s.values[0]);
+            pattern(rt, s.values[1]);
         }
         Check::Failed(r) => {
-            io::write_all(1, b"refused ");
-            io::print_decimal(1, r.number() as u64);
-            io::write_all(1, b" ");
-            io::print_decimal(1, r.place() as u64);
-            pattern(r.value());
+            host_io::write_all(rt, b"refused ");
+            host_io::print_decimal(rt, r.number() as u64);
+            host_io::write_all(rt, b" ");
+            host_io::print_decimal(rt, r.place() as u64);
+            pattern(rt, r.value());
         }
     }
-    io::write_all(1, b"\n");
+    host_io::write_all(rt, b"\n");
 }
 
-fn main() {
-    show(two_by_two(1.000000005, 0.5, 0.0, 0.5));
-    show(two_by_two(1.0000000005, 1.0, 0.0, 0.0));
-    show(two_by_two(0.25, 0.25, 0.75, 0.75));
-    show(two_by_two(1.0, 0.0, 0.0, 1.0));
+fn main(rt: HostRuntime) {
+    show(&rt, two_by_two(1.000000005, 0.5, 0.0, 0.5));
+    show(&rt, two_by_two(1.0000000005, 1.0, 0.0, 0.0));
+    show(&rt, two_by_two(0.25, 0.25, 0.75, 0.75));
+    show(&rt, two_by_two(1.0, 0.0, 0.0, 1.0));
 }

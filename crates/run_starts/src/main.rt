@@ -9,6 +9,7 @@
 
 use params::MsarParams;
 use run_hex::Line;
+use std::io::Input;
 use text_words::least;
 
 // So many digits of the line, behind those that `unit` counts.
@@ -30,32 +31,32 @@ fn entry(values: &[f64], i: usize) -> f64 {
 }
 
 // Writes the first n numbers, and a word for each place past them that is not +0.
-fn numbers(values: &[f64], n: usize) -> bool {
+fn numbers(rt: &impl Print, values: &[f64], n: usize) -> bool {
     for e in 0..values.len() {
         let bits = number::pattern(values[e]);
         if e < n {
-            if !run_hex::write(bits, b' ') {
+            if !run_hex::write(rt, bits, b' ') {
                 return false;
             }
         } else if bits != 0 {
-            io::write_all(1, b"past ");
+            host_io::write_all(rt, b"past ");
         }
     }
     true
 }
 
-fn parameters(q: MsarParams) -> bool {
-    numbers(&q.transition, q.transition_count)
-        && numbers(&q.means, q.means_count)
-        && numbers(&q.ar, q.ar_count)
-        && numbers(&q.variances, q.variances_count)
+fn parameters(rt: &impl Print, q: MsarParams) -> bool {
+    numbers(rt, &q.transition, q.transition_count)
+        && numbers(rt, &q.means, q.means_count)
+        && numbers(rt, &q.ar, q.ar_count)
+        && numbers(rt, &q.variances, q.variances_count)
 }
 
-fn say(holds: bool) -> bool {
+fn say(rt: &impl Print, holds: bool) -> bool {
     if holds {
-        return io::write_all(1, b"yes");
+        return host_io::write_all(rt, b"yes");
     }
-    io::write_all(1, b"no")
+    host_io::write_all(rt, b"no")
 }
 
 // A record with these variances, and zeros.
@@ -78,45 +79,52 @@ fn with_variances(y: &[f64], count: usize) -> MsarParams {
     }
 }
 
-fn answer(y: &[f64], word: u64) -> bool {
+fn answer(rt: &impl Print, y: &[f64], word: u64) -> bool {
     let i = field(word, 0x1_0000_0000, 0x1_0000);
     let k = field(word, 0x100_0000, 0x100);
     let p = field(word, 0x1_0000, 0x100);
     let s = field(word, 0x100, 0x100) == 1;
     let b = field(word, 1, 0x100);
     match field(word, 0x1_0000_0000_0000, 0x1_0000) {
-        0 => parameters(msar_start::recipe(i, y, k, p, s, b)),
-        1 => say(msar_start::is_collapsed(with_variances(y, k))),
-        _ => say(msar_start::is_better(entry(y, 0), s, entry(y, 1), b == 1)),
+        0 => parameters(rt, msar_start::recipe(i, y, k, p, s, b)),
+        1 => say(rt, msar_start::is_collapsed(with_variances(y, k))),
+        _ => say(
+            rt,
+            msar_start::is_better(entry(y, 0), s, entry(y, 1), b == 1),
+        ),
     }
 }
 
 // Answers the next questions, and says whether to go on.
-fn questions(y: &[f64], count: usize) -> bool {
+fn questions(rt: &(impl Print + Input), y: &[f64], count: usize) -> bool {
     for _ in 0..count {
-        let Line::Pattern(word) = run_hex::read() else {
+        let Line::Pattern(word) = run_hex::read(rt) else {
             return false;
         };
-        if !(answer(y, word) && io::write_all(1, b"\n")) {
+        if !(answer(rt, y, word) && host_io::write_all(rt, b"\n")) {
             return false;
         }
     }
     true
 }
 
-fn series() -> bool {
+fn series(rt: &(impl Print + Input)) -> bool {
     let mut y = [0.0; 4096];
-    let Line::Pattern(word) = run_hex::read() else {
+    let Line::Pattern(word) = run_hex::read(rt) else {
         return false;
     };
-    let n = run_hex::numbers(&mut y, least(field(word, 0x1_0000_0000, 0x1_0000), 4096));
-    questions(&y[0..n], field(word, 1, 0x1_0000_0000))
+    let n = run_hex::numbers(
+        rt,
+        &mut y,
+        least(field(word, 0x1_0000_0000, 0x1_0000), 4096),
+    );
+    questions(rt, &y[0..n], field(word, 1, 0x1_0000_0000))
 }
 
 // A proved loop has to end, and nothing says that the input does: it stops after a million series, which no run reaches.
-fn main() {
+fn main(rt: HostRuntime) {
     for _ in 0..1_000_000usize {
-        if !series() {
+        if !series(&rt) {
             return;
         }
     }

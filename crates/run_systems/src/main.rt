@@ -9,58 +9,57 @@ ghost use Rattle.std.specs.Prelude.{◌≤◌, ◌<◌, ◌^◌};
 
 use linsolve::{Outcome, Solution};
 use run_hex::Line;
+use std::io::Input;
 
 // Writes the first n unknowns, and says whether that went through.
-fn unknowns(x: &[f64; 16], n: usize) -> bool
+fn unknowns(rt: &impl Print, x: &[f64; 16], n: usize) -> bool
     requires { n ≤ 16 }
 {
-    let mut i = 0;
-    while i < n {
-        if !run_hex::write(number::pattern(x[i]), b'\n') {
+    for i in 0..n {
+        if !run_hex::write(rt, number::pattern(x[i]), b'\n') {
             return false;
         }
-        i += 1;
     }
     true
 }
 
 // Whether every place from n on is positive zero.
 fn zero_from(x: &[f64; 16], n: usize) -> bool {
-    let mut i = n;
-    while i < 16 {
+    for i in n..16 {
         if number::pattern(x[i]) != 0 {
             return false;
         }
-        i += 1;
     }
     true
 }
 
 // Writes the first n unknowns, and a line more where a place past them is not zero.
-fn places(x: &[f64; 16], n: usize) -> bool
+fn places(rt: &impl Print, x: &[f64; 16], n: usize) -> bool
     requires { n ≤ 16 }
 {
-    if !unknowns(x, n) {
+    if !unknowns(rt, x, n) {
         return false;
     }
-    zero_from(x, n) || io::write_all(1, b"not zero past n\n")
+    zero_from(x, n) || host_io::write_all(rt, b"not zero past n\n")
 }
 
 // Writes the column at which elimination stopped, and says whether that went through.
-fn singular(column: u8) -> bool {
-    io::write_all(1, b"singular ") && io::print_decimal(1, column as u64) && io::write_all(1, b"\n")
+fn singular(rt: &impl Print, column: u8) -> bool {
+    host_io::write_all(rt, b"singular ")
+        && host_io::print_decimal(rt, column as u64)
+        && host_io::write_all(rt, b"\n")
 }
 
 // Writes the answer to a system of n equations, and says whether that went through.
-fn write(s: Solution, n: usize) -> bool
+fn write(rt: &impl Print, s: Solution, n: usize) -> bool
     requires { n ≤ 16 }
 {
     let outcome = s.outcome;
     let x = s.x;
     match outcome {
-        Outcome::Solved => io::write_all(1, b"solved\n") && places(&x, n),
-        Outcome::Singular(column) => singular(column) && places(&x, 0),
-        Outcome::TooLarge => io::write_all(1, b"too large\n") && places(&x, 0),
+        Outcome::Solved => host_io::write_all(rt, b"solved\n") && places(rt, &x, n),
+        Outcome::Singular(column) => singular(rt, column) && places(rt, &x, 0),
+        Outcome::TooLarge => host_io::write_all(rt, b"too large\n") && places(rt, &x, 0),
     }
 }
 
@@ -74,23 +73,23 @@ fn cells(n: usize) -> usize
 
 // Answers the system of n equations whose numbers come next, after `before` lines. Says how many lines are read then, or 0
 // where the run is over.
-fn numbered(n: usize, before: u64) -> u64
+fn numbered(rt: &(impl Print + Input), n: usize, before: u64) -> u64
     requires { (n ≤ 16) × (before ≤ 2 ^ 40) }
 {
     let mut a = [0.0; 256];
     let mut b = [0.0; 16];
-    let in_table = run_hex::numbers(&mut a, cells(n));
+    let in_table = run_hex::numbers(rt, &mut a, cells(n));
     if in_table < cells(n) {
-        run_hex::bad_line(before + in_table as u64 + 1);
+        run_hex::bad_line(rt, before + in_table as u64 + 1);
         return 0;
     }
-    let in_side = run_hex::numbers(&mut b, n);
+    let in_side = run_hex::numbers(rt, &mut b, n);
     let after = before + (in_table + in_side) as u64;
     if in_side < n {
-        run_hex::bad_line(after + 1);
+        run_hex::bad_line(rt, after + 1);
         return 0;
     }
-    if write(linsolve::solve(a, b, n), n) {
+    if write(rt, linsolve::solve(a, b, n), n) {
         after
     } else {
         0
@@ -98,8 +97,8 @@ fn numbered(n: usize, before: u64) -> u64
 }
 
 // The same where n is above 16, and so no numbers come.
-fn unnumbered(n: usize, before: u64) -> u64 {
-    if write(linsolve::solve([0.0; 256], [0.0; 16], n), 0) {
+fn unnumbered(rt: &impl Print, n: usize, before: u64) -> u64 {
+    if write(rt, linsolve::solve([0.0; 256], [0.0; 16], n), 0) {
         before
     } else {
         0
@@ -107,31 +106,31 @@ fn unnumbered(n: usize, before: u64) -> u64 {
 }
 
 // Answers the next system, after `before` lines. Says how many lines are read then, or 0 where the run is over.
-fn system(before: u64) -> u64
+fn system(rt: &(impl Print + Input), before: u64) -> u64
     requires { before < 2 ^ 40 }
 {
-    match run_hex::read() {
+    match run_hex::read(rt) {
         Line::End => 0,
         Line::Bad => {
-            run_hex::bad_line(before + 1);
+            run_hex::bad_line(rt, before + 1);
             0
         }
         Line::Pattern(n) => {
             let size = n as usize;
             if size > 16 {
-                unnumbered(size, before + 1)
+                unnumbered(rt, size, before + 1)
             } else {
-                numbered(size, before + 1)
+                numbered(rt, size, before + 1)
             }
         }
     }
 }
 
 // A proved loop has to end, and nothing says that the input does: it stops after 2 ^ 40 lines, which no run reaches.
-fn main() {
+fn main(rt: HostRuntime) {
     let mut lines: u64 = 0;
     while lines < 0x100_0000_0000 {
-        let next = system(lines);
+        let next = system(&rt, lines);
         if next <= lines {
             return;
         }

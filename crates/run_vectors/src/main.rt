@@ -6,35 +6,36 @@
 ghost use Rattle.std.specs.Prelude.{◌<◌, ◌^◌};
 
 use run_hex::Line;
+use std::io::Input;
 
 // Writes the answer for the pattern n, and says whether that went through.
-fn answer(n: u64) -> bool {
+fn answer(rt: &impl Print, n: u64) -> bool {
     let x = number::of_pattern(n);
-    run_hex::write(number::pattern(x), b' ')
-        && run_hex::write(number::pattern(root::root(x)), b' ')
-        && run_hex::write(number::pattern(logarithm::log(x)), b' ')
-        && run_hex::write(number::pattern(exp::exp(x)), b' ')
-        && run_hex::write(number::pattern(normal::lnpdf(x)), b'\n')
+    run_hex::write(rt, number::pattern(x), b' ')
+        && run_hex::write(rt, number::pattern(root::root(x)), b' ')
+        && run_hex::write(rt, number::pattern(logarithm::log(x)), b' ')
+        && run_hex::write(rt, number::pattern(exp::exp(x)), b' ')
+        && run_hex::write(rt, number::pattern(normal::lnpdf(x)), b'\n')
 }
 
 // Answers the next line, after `before` lines, and says whether to go on.
-fn next(before: u64) -> bool
+fn next(rt: &(impl Print + Input), before: u64) -> bool
     requires { before < 2 ^ 40 }
 {
-    match run_hex::read() {
+    match run_hex::read(rt) {
         Line::End => false,
         Line::Bad => {
-            run_hex::bad_line(before + 1);
+            run_hex::bad_line(rt, before + 1);
             false
         }
-        Line::Pattern(n) => answer(n),
+        Line::Pattern(n) => answer(rt, n),
     }
 }
 
 // A proved loop has to end, and nothing says that the input does: it stops after 2 ^ 40 lines, which no run reaches.
-fn main() {
+fn main(rt: HostRuntime) {
     let mut lines: u64 = 0;
-    while lines < 0x100_0000_0000 && next(lines) {
+    'reading: while lines < 0x100_0000_0000 && next(&rt, lines) {
         lines += 1;
     }
 }
