@@ -1,7 +1,5 @@
 -- `answered` meets its contract: the parameters reached, tidied.
 use Rattle.fit.proofs.Ends.{answered_is}
-use Prim.Native.Nat.{◌-◌}
-use borrow.Author.Rules.{rules}
 use Rattle.fit.proofs.answered.Goals as goal
 
 pub returns : goal.returns

@@ -1,9 +1,7 @@
 -- `check` meets its contract: 24, then 25.
-use borrow.Author.Tests.{not-true, not-false, eq-eqb, ne_eqb}
+use borrow.Author.Tests.{eq-eqb, ne_eqb}
 use Rattle.fit.proofs.Ends.{order_zero, no_variance, a_variance}
-use Prim.Native.Nat.{◌-◌}
 use mathlib.Core.Path.{sym, ◌∙◌}
-use borrow.Author.Rules.{rules}
 use Rattle.fit.proofs.check.Goals as goal
 
 pub returns-then-order-eq0 : goal.returns-then-order-eq0

@@ -2,7 +2,6 @@
 use Prim.Native.Nat.{◌*◌, ◌<◌}
 use mathlib.Core.Path.{◌∙◌}
 use native.Mathlib.Omega.{arith}
-use borrow.Author.Rules.{rules}
 use Rattle.params.specs.Parameters.{k}
 use Rattle.calls.proofs.Runs.{run_answer_lem, values_are, drop_more, all_cleared, run_says, smoothed_as_found, smoothed_is}
 use Rattle.fit.proofs.close.Goals as goal

@@ -1,8 +1,6 @@
 -- `end_of` meets its contract: how the passes ended.
 use Rattle.fit.specs.Verdicts.{end_of}
-use Prim.Native.Nat.{◌-◌}
 use mathlib.Core.Path.{sym, ap}
-use borrow.Author.Rules.{rules}
 use Rattle.fit.proofs.end_of.Goals as goal
 
 pub returns-in-Going : goal.returns-in-Going

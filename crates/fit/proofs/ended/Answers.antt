@@ -1,7 +1,5 @@
 -- `ended` meets its contract: what the closing pass says, with the parameters reached.
 use Rattle.fit.proofs.Ends.{ended_passed, ended_by_refusal}
-use Prim.Native.Nat.{◌-◌}
-use borrow.Author.Rules.{rules}
 use Rattle.fit.proofs.ended.Goals as goal
 
 pub answered-requires : goal.answered-requires

@@ -2,7 +2,6 @@
 use Prim.Native.Nat.{◌*◌}
 use mathlib.Core.Path.{◌≡◌, refl}
 use native.Mathlib.Omega.{arith}
-use borrow.Author.Rules.{rules}
 use lib.ListN.{drop}
 use Rattle.calls.proofs.Runs.{run_answer_lem, values_are, drop_more}
 use Rattle.fit.proofs.OnePass.{never, held_at, run_refused, run_passed}

@@ -1,12 +1,10 @@
-use Prim.Native.Nat.{◌*◌, ◌-◌, ◌≤◌}
+use Prim.Native.Nat.{◌*◌, ◌≤◌}
 use mathlib.Core.Path.{◌≡◌, refl, sym, ap, ◌∙◌}
 use native.Mathlib.Omega.{arith}
-use borrow.Author.Rules.{rules}
-use lib.ListN.{length, drop}
+use lib.ListN.{length}
 use Rattle.rows.specs.Rows.{windows_of}
 use Rattle.em_step.specs.Ready.{Ready}
 use Rattle.em_step.proofs.Kept.{Good, windows_alike, still_ready}
-use Rattle.fit.specs.declared.Course.TheVariants.{Going}
 use Rattle.fit.specs.Fit.{passes_to}
 use Rattle.fit.proofs.Going.{none, one_more, converged_stays, refused_stays, going_good}
 use Rattle.fit.proofs.OnePass.{pass_converged, pass_refused, pass_step_refused, pass_stepped, step_is, ready_long, rest_kept}

@@ -1,16 +1,9 @@
 -- `passes` meets its contract: as long as the loop goes on, the parameters are those after i passes.
 use Prim.Native.Nat.{◌*◌, ◌-◌, ◌≤◌}
-use mathlib.Core.Path.{◌≡◌, refl, sym, ap, ◌∙◌}
-use native.Mathlib.Omega.{arith}
-use borrow.Author.Rules.{rules}
+use mathlib.Core.Path.{◌≡◌}
 use lib.ListN.{length, drop}
-use Rattle.rows.specs.Rows.{windows_of}
-use Rattle.em_step.specs.Ready.{Ready}
-use Rattle.em_step.proofs.Kept.{Good, windows_alike, still_ready}
 use Rattle.fit.specs.declared.Course.TheVariants.{Going}
 use Rattle.fit.specs.Fit.{passes_to}
-use Rattle.fit.proofs.Going.{none, one_more, converged_stays, refused_stays, going_good}
-use Rattle.fit.proofs.OnePass.{pass_converged, pass_refused, pass_step_refused, pass_stepped, step_is, ready_long, rest_kept}
 use Rattle.fit.proofs.passes.Given as goal
 
 abbrev pub invariant-loop-i : goal.invariant-loop-i

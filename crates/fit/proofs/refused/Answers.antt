@@ -1,7 +1,5 @@
 -- `refused` meets its contract: a refusal beside zeros.
 use Rattle.fit.proofs.Ends.{refused_is}
-use Prim.Native.Nat.{◌-◌}
-use borrow.Author.Rules.{rules}
 use Rattle.fit.proofs.refused.Goals as goal
 
 pub returns : goal.returns

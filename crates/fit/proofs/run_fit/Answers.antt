@@ -2,7 +2,6 @@
 use Prim.Native.Nat.{◌*◌}
 use mathlib.Core.Bool.{false}
 use native.Mathlib.Omega.{arith}
-use borrow.Author.Rules.{rules}
 use Rattle.number.specs.Number.{zero⁺}
 use Rattle.calls.proofs.Runs.{all_cleared, cells_small}
 use Rattle.fit.proofs.Ends.{closing_is, closing_ready, end_good, end_passed, end_refused, table_passed, table_refused}

@@ -1,7 +1,6 @@
 -- `stops` meets its contract: from the second pass on, the gain against tol.
 use Rattle.fit.specs.Fit.{stops}
 use lib.Ieee.{le}
-use Prim.Native.Nat.{◌-◌}
 use borrow.Author.Rules.{rules}
 use Rattle.fit.proofs.stops.Goals as goal
 

@@ -1,9 +1,6 @@
 -- `verdict_of` meets its contract: 26, converged, or going.
 use Rattle.fit.proofs.OnePass.{not_finite, converges, goes}
-use borrow.Author.Tests.{not-true, not-false}
-use Prim.Native.Nat.{◌-◌}
 use mathlib.Core.Path.{sym, ◌∙◌}
-use borrow.Author.Rules.{rules}
 use Rattle.fit.proofs.verdict_of.Goals as goal
 
 pub returns-then-not-is_finite : goal.returns-then-not-is_finite
