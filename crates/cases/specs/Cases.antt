@@ -1,6 +1,6 @@
 -- The parameters of document 01's examples with two regimes, and the comparisons that the program makes.
-use Rattle.std.specs.Prelude.{ℕ, ◌+◌, ◌/◌, ◌%◌, ◌^◌, Bool, true, false, ◌&&◌, List, ◌∷◌, replicate, Float}
-use Rattle.number.specs.Number.{if◌then◌else◌, ◌=?◌, pattern_of, zero⁺, half, one}
+use Rattle.std.specs.Prelude.{ℕ, ◌+◌, ◌/◌, ◌%◌, ◌^◌, Bool, true, false, ◌&&◌, List, ◌∷◌, replicate, Float, if◌then◌else◌}
+use Rattle.number.specs.Number.{◌=?◌, pattern_of, zero⁺, half, one}
 use Rattle.refusal.specs.Refusals.{said}
 use Rattle.refusal.specs.declared.Check.{Check}
 use Rattle.refusal.specs.declared.Check.TheVariants.{Passed, Failed}

@@ -1,4 +1,5 @@
 -- The tables that are made once a call: variances by label, deviations and their logarithms. Assumes nothing.
+use Rattle.std.specs.Prelude.{if◌then◌else◌}
 use Prim.Native.Nat.{ℕ, ◌%◌, ◌<◌, ◌≤◌}
 use mathlib.Core.Path.{◌≡◌, refl, ap, ◌∙◌}
 use mathlib.Core.Bool.{Bool, true, false}
@@ -7,7 +8,7 @@ use native.Mathlib.Nat.{mod-lt, mod-mod}
 use native.Mathlib.Omega.{arith}
 use lib.ListN.{replicate}
 use lib.Ieee.{Float}
-use Rattle.number.specs.Number.{if◌then◌else◌, ◌=?◌, zero⁺}
+use Rattle.number.specs.Number.{◌=?◌, zero⁺}
 use Rattle.number.specs.Table.{◌!◌, fill_at}
 use Rattle.number.proofs.Table.{fill_at_ext, fill_at_lem}
 use Rattle.root.specs.Root.{root_of}

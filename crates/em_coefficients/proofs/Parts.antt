@@ -1,4 +1,5 @@
 -- Blocks in arrays: that they fit, the table of a window row by row, and the answers of the blocks one after another. Assumes nothing.
+use Rattle.std.specs.Prelude.{if◌then◌else◌}
 use Prim.Native.Nat.{ℕ, suc, ◌+◌, ◌*◌, ◌/◌, ◌%◌, ◌^◌, ◌<◌, ◌≤◌}
 use mathlib.Core.Path.{◌≡◌, ◌∙◌}
 use mathlib.Core.Bool.{true}
@@ -9,7 +10,7 @@ use native.Mathlib.Omega.{arith}
 use lib.Arith.{digits_div, digits_mod}
 use lib.ListN.{length, set, replicate}
 use lib.Ieee.{Float, ne}
-use Rattle.number.specs.Number.{if◌then◌else◌, ◌⊕◌, ◌⊗◌, ◌⊘◌, zero⁺}
+use Rattle.number.specs.Number.{◌⊕◌, ◌⊗◌, ◌⊘◌, zero⁺}
 use Rattle.number.specs.Table.{◌!◌, fill_at}
 use Rattle.number.proofs.Table.{fill_at_none, fill_at_ext, fill_at_past, fill_at_join, fill_at_long, fill_at_more, fill_at_lem, fill_join, row_before}
 use Rattle.window.proofs.Windows.{label_labels}

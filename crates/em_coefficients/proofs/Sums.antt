@@ -1,5 +1,6 @@
 -- The sums that the code makes place by place are those of the definition, and so are the blocks that they give; and what the rows hold past their first m
 -- places does not count. Assumes nothing.
+use Rattle.std.specs.Prelude.{if◌then◌else◌}
 use Prim.Native.Nat.{ℕ, suc, ◌+◌, ◌*◌, ◌/◌, ◌%◌, ◌^◌, ◌<◌, ◌≤◌}
 use mathlib.Core.Path.{◌≡◌, refl, ◌∙◌}
 use mathlib.Core.List.{List}
@@ -8,7 +9,7 @@ use native.Mathlib.Omega.{arith}
 use lib.Arith.{digits_lt, digits_div, digits_mod}
 use lib.ListN.{length, replicate}
 use lib.Ieee.{Float, ne}
-use Rattle.number.specs.Number.{if◌then◌else◌, ◌⊗◌, zero⁺}
+use Rattle.number.specs.Number.{◌⊗◌, zero⁺}
 use Rattle.number.specs.Table.{◌!◌, fill_at}
 use Rattle.number.proofs.Sums.{where_ext}
 use Rattle.number.proofs.Table.{fill_at_ext, fill_at_lem, fill_long}

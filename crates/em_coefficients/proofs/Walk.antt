@@ -1,4 +1,5 @@
 -- Sums in the cells of an array, in blocks of w cells: a place adds to one block alone. Assumes nothing.
+use Rattle.std.specs.Prelude.{if◌then◌else◌}
 use Prim.Native.Nat.{ℕ, ◌+◌, ◌-◌, ◌*◌, ◌/◌, ◌%◌, ◌<◌, ◌≤◌}
 use mathlib.Core.Path.{◌≡◌, refl, sym, ◌∙◌}
 use mathlib.Core.Bool.{Bool, true, false, ◌&&◌}
@@ -10,7 +11,7 @@ use lib.Arith.{digits_div}
 use lib.Dec.{ltb, eqb}
 use lib.ListN.{length}
 use lib.Ieee.{Float}
-use Rattle.number.specs.Number.{if◌then◌else◌, ◌=?◌, ◌⊕◌}
+use Rattle.number.specs.Number.{◌=?◌, ◌⊕◌}
 use Rattle.number.specs.Table.{◌!◌, fill_at}
 use Rattle.number.proofs.Table.{fill_at_long, fill_at_at, fill_at_before, fill_at_past, fill_long, fill_is}
 use Rattle.rows.specs.Steps.{cell_at}

@@ -3,9 +3,9 @@
 // its lag and label alone: the distances are made once a row, and each window reads those of its labels.
 #![tactic(auto)]
 
-ghost use Rattle.std.specs.Prelude.{◌≡◌, suc, ◌+◌, ◌*◌, ◌^◌, ◌<◌, ◌≤◌, length, replicate};
+ghost use Rattle.std.specs.Prelude.{◌≡◌, suc, ◌+◌, ◌*◌, ◌^◌, ◌<◌, ◌≤◌, length, replicate, if◌then◌else◌};
 ghost use Rattle.std.specs.Float.Ieee.{ne};
-ghost use Rattle.number.specs.Number.{if◌then◌else◌, ◌⊕◌, ◌⊗◌, ◌⊘◌, zero⁺};
+ghost use Rattle.number.specs.Number.{◌⊕◌, ◌⊗◌, ◌⊘◌, zero⁺};
 ghost use Rattle.number.specs.Table.{◌!◌, fill_at};
 ghost use Rattle.window.specs.Shape.{Shape};
 ghost use Rattle.params.specs.Parameters.{block_of};

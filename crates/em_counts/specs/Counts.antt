@@ -1,8 +1,8 @@
 -- The new transition table: how often label i came after label j, over how often anything came after j, by the smoothed windows.
 -- After Hamilton (1990), Kim and Nelson (1999), 4.3, and document 01, "EM step".
-use Rattle.std.specs.Prelude.{ℕ, ◌*◌, ◌/◌, ◌%◌, ◌&&◌, List, replicate, Float}
+use Rattle.std.specs.Prelude.{ℕ, ◌*◌, ◌/◌, ◌%◌, ◌&&◌, List, replicate, Float, if◌then◌else◌}
 use Rattle.std.specs.Float.Ieee.{le}
-use Rattle.number.specs.Number.{if◌then◌else◌, ◌=?◌, ◌⊘◌, zero⁺}
+use Rattle.number.specs.Number.{◌=?◌, ◌⊘◌, zero⁺}
 use Rattle.number.specs.Sums.{sum_where}
 use Rattle.number.specs.Table.{fill_at}
 use Rattle.params.specs.declared.MsarParams.{MsarParams}

@@ -1,8 +1,8 @@
 -- What the steps of the code give. Where the order is at least 1, the labels run round through the whole table: place e has the label e % k now and
 -- e / k % k before. Cell c of the counts is that of label c / k after label c % k.
-use Rattle.std.specs.Prelude.{ℕ, ◌*◌, ◌/◌, ◌%◌, ◌≡◌, Bool, ◌&&◌, List, replicate, Float}
+use Rattle.std.specs.Prelude.{ℕ, ◌*◌, ◌/◌, ◌%◌, ◌≡◌, Bool, ◌&&◌, List, replicate, Float, if◌then◌else◌}
 use Rattle.std.specs.Float.Ieee.{le}
-use Rattle.number.specs.Number.{if◌then◌else◌, ◌=?◌, ◌⊘◌, zero⁺}
+use Rattle.number.specs.Number.{◌=?◌, ◌⊘◌, zero⁺}
 use Rattle.number.specs.Table.{◌!◌, fill_at}
 use Rattle.rows.specs.Steps.{cell_at}
 

@@ -1,4 +1,5 @@
 -- The sums followed place by place, and that they are those of the definition. Assumes nothing.
+use Rattle.std.specs.Prelude.{if◌then◌else◌}
 use Prim.Native.Nat.{ℕ, suc, ◌+◌, ◌*◌, ◌/◌, ◌%◌, ◌^◌, ◌<◌, ◌≤◌}
 use mathlib.Core.Path.{◌≡◌, refl, ◌∙◌}
 use mathlib.Core.Bool.{Bool, true, false, ◌&&◌}
@@ -7,7 +8,7 @@ use native.Mathlib.Nat.{mod-lt, div-lt_iff_lt-mul, mul-le-mul, le_refl}
 use lib.Arith.{digits_div}
 use lib.ListN.{length, replicate}
 use lib.Ieee.{Float, neg, ne, sub}
-use Rattle.number.specs.Number.{if◌then◌else◌, ◌⊕◌, ◌⊖◌, ◌⊘◌, zero⁺}
+use Rattle.number.specs.Number.{◌⊕◌, ◌⊖◌, ◌⊘◌, zero⁺}
 use Rattle.number.specs.Table.{◌!◌, fill_at}
 use Rattle.number.proofs.Sums.{where_ext}
 use Rattle.number.proofs.Table.{fill_at_ext, fill_at_lem, fill_long}

@@ -1,8 +1,8 @@
 -- The new means: a residual is d + Σ_r α_r μ[r] with d = y_t - Σ_l φ_l y_(t-l), so that (Σ g/σ² α α') μ = - Σ g/σ² d α.
 -- After Kim and Nelson (1999), 4.3, and document 01, "EM step"; model.rs, `update_means`.
-use Rattle.std.specs.Prelude.{ℕ, zero, suc, ◌-◌, ◌*◌, ◌/◌, ◌%◌, Bool, ◌&&◌, List, replicate, Float}
+use Rattle.std.specs.Prelude.{ℕ, zero, suc, ◌-◌, ◌*◌, ◌/◌, ◌%◌, Bool, ◌&&◌, List, replicate, Float, if◌then◌else◌}
 use Rattle.std.specs.Float.Ieee.{neg, ne}
-use Rattle.number.specs.Number.{if◌then◌else◌, ◌=?◌, ◌⊕◌, ◌⊖◌, ◌⊗◌, zero⁺, one}
+use Rattle.number.specs.Number.{◌=?◌, ◌⊕◌, ◌⊖◌, ◌⊗◌, zero⁺, one}
 use Rattle.number.specs.Sums.{sum_where}
 use Rattle.number.specs.Table.{◌!◌, fill_at}
 use Rattle.params.specs.declared.MsarParams.{MsarParams}

@@ -1,8 +1,8 @@
 -- What the steps of the code give, of parts that are lent one by one: rows made once a row or a window, and sums by place of work memory. The proofs show
 -- that they are the definition's.
-use Rattle.std.specs.Prelude.{ℕ, zero, suc, ◌+◌, ◌-◌, ◌*◌, ◌/◌, ◌%◌, ◌^◌, ◌≡◌, Bool, ◌&&◌, List, replicate, Float}
+use Rattle.std.specs.Prelude.{ℕ, zero, suc, ◌+◌, ◌-◌, ◌*◌, ◌/◌, ◌%◌, ◌^◌, ◌≡◌, Bool, ◌&&◌, List, replicate, Float, if◌then◌else◌}
 use Rattle.std.specs.Float.Ieee.{neg, ne}
-use Rattle.number.specs.Number.{if◌then◌else◌, ◌=?◌, ◌⊕◌, ◌⊖◌, ◌⊗◌, ◌⊘◌, zero⁺, one}
+use Rattle.number.specs.Number.{◌=?◌, ◌⊕◌, ◌⊖◌, ◌⊗◌, ◌⊘◌, zero⁺, one}
 use Rattle.number.specs.Table.{◌!◌, fill_at}
 use Rattle.rows.specs.Steps.{cell_at, precision_in}
 use Rattle.density.specs.Steps.{variances_from, phis_from}

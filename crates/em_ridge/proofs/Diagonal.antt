@@ -1,4 +1,5 @@
 -- The diagonal of a table, walked from its first row on: the largest place so far, and the ridge in the rows so far. Assumes nothing.
+use Rattle.std.specs.Prelude.{if◌then◌else◌}
 use Prim.Native.Nat.{ℕ, ◌+◌, ◌*◌, ◌/◌, ◌%◌, ◌<◌, ◌≤◌}
 use mathlib.Core.Path.{◌≡◌, refl, sym, ◌∙◌}
 use mathlib.Core.Logic.{◌≢◌}
@@ -11,7 +12,7 @@ use borrow.Author.Tests.{lt-ltb, le-ltb, eq-eqb, ne_eqb}
 use lib.Arith.{digits_lt, digits_div, digits_mod}
 use lib.ListN.{length, set}
 use lib.Ieee.{Float}
-use Rattle.number.specs.Number.{if◌then◌else◌, ◌<?◌, ◌⊕◌, ◌⊗◌, zero⁺, max_of}
+use Rattle.number.specs.Number.{◌<?◌, ◌⊕◌, ◌⊗◌, zero⁺, max_of}
 use Rattle.number.specs.Table.{◌!◌, fill_at}
 use Rattle.number.proofs.Table.{fill_self, fill_set, fill_at_lem, fill_at_ext}
 use Rattle.em_ridge.specs.Ridge.{small, largest_to, ridged}

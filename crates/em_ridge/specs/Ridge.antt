@@ -1,7 +1,7 @@
 -- Normal equations solved with a ridge: 1e-12 times the largest place of the diagonal, added to the diagonal. Where the largest is not finite or not
 -- above zero, the incumbent stays. After document 01, "EM step"; model.rs, `max_diagonal`, `M_STEP_RIDGE_REL`.
-use Rattle.std.specs.Prelude.{ℕ, zero, suc, ◌*◌, ◌/◌, ◌%◌, List, replicate, Float}
-use Rattle.number.specs.Number.{if◌then◌else◌, ◌=?◌, ◌⊕◌, ◌⊗◌, float, zero⁺, usable, max_of}
+use Rattle.std.specs.Prelude.{ℕ, zero, suc, ◌*◌, ◌/◌, ◌%◌, List, replicate, Float, if◌then◌else◌}
+use Rattle.number.specs.Number.{◌=?◌, ◌⊕◌, ◌⊗◌, float, zero⁺, usable, max_of}
 use Rattle.number.specs.Table.{◌!◌, cell, fill_at}
 use Rattle.refusal.specs.declared.Check.TheVariants.{Passed, Failed}
 use Rattle.refusal.specs.declared.Refusal.TheVariants.{Singular}

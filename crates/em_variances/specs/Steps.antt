@@ -1,8 +1,8 @@
 -- What the steps of the code give, of parts that are lent one by one: residuals made lag by lag, and sums by place of work memory. The proofs show that
 -- they are those of the definition.
-use Rattle.std.specs.Prelude.{ℕ, suc, ◌+◌, ◌*◌, ◌/◌, ◌%◌, ◌^◌, ◌≡◌, List, replicate, Float}
+use Rattle.std.specs.Prelude.{ℕ, suc, ◌+◌, ◌*◌, ◌/◌, ◌%◌, ◌^◌, ◌≡◌, List, replicate, Float, if◌then◌else◌}
 use Rattle.std.specs.Float.Ieee.{neg, lt}
-use Rattle.number.specs.Number.{if◌then◌else◌, ◌⊖◌, ◌⊗◌, ◌⊘◌, zero⁺, max_of}
+use Rattle.number.specs.Number.{◌⊖◌, ◌⊗◌, ◌⊘◌, zero⁺, max_of}
 use Rattle.number.specs.Table.{◌!◌, fill_at}
 use Rattle.window.specs.Windows.{labels}
 use Rattle.rows.specs.Steps.{cell_at, counts_for}

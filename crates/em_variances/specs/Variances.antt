@@ -1,8 +1,8 @@
 -- The new variances: Σ g ε² / Σ g with the residual ε = x_0 - φ_1 x_1 - .. - φ_p x_p, x_l = y[t-l] - μ[s_l], but at least the floor; for each block of
 -- labels. After Kim and Nelson (1999), 4.3, and document 01, "EM step"; model.rs, `update_variances`.
-use Rattle.std.specs.Prelude.{ℕ, zero, suc, Bool, ◌&&◌, List, Float}
+use Rattle.std.specs.Prelude.{ℕ, zero, suc, Bool, ◌&&◌, List, Float, if◌then◌else◌}
 use Rattle.std.specs.Float.Ieee.{lt}
-use Rattle.number.specs.Number.{if◌then◌else◌, ◌=?◌, ◌⊖◌, ◌⊗◌, ◌⊘◌, zero⁺, max_of}
+use Rattle.number.specs.Number.{◌=?◌, ◌⊖◌, ◌⊗◌, ◌⊘◌, zero⁺, max_of}
 use Rattle.number.specs.Sums.{sum_where}
 use Rattle.number.specs.Table.{◌!◌, fill_at}
 use Rattle.params.specs.declared.MsarParams.{MsarParams}

@@ -2,9 +2,9 @@
 // labels share the work; the sums of each block of labels stand in sixteen places.
 #![tactic(auto)]
 
-ghost use Rattle.std.specs.Prelude.{◌≡◌, suc, ◌+◌, ◌*◌, ◌^◌, ◌<◌, ◌≤◌, length, set};
+ghost use Rattle.std.specs.Prelude.{◌≡◌, suc, ◌+◌, ◌*◌, ◌^◌, ◌<◌, ◌≤◌, length, set, if◌then◌else◌};
 ghost use Rattle.std.specs.Float.Ieee.{ne};
-ghost use Rattle.number.specs.Number.{if◌then◌else◌, ◌⊕◌, ◌⊖◌, ◌⊗◌, zero⁺};
+ghost use Rattle.number.specs.Number.{◌⊕◌, ◌⊖◌, ◌⊗◌, zero⁺};
 ghost use Rattle.number.specs.Table.{◌!◌, fill_at};
 ghost use Rattle.window.specs.Shape.{Shape};
 ghost use Rattle.em_variances.specs.Steps.{turned, residual_by, residual_in, Summed, variance_of, variances_by};

@@ -1,8 +1,8 @@
 -- The exponential: fdlibm 5.3, e_exp.c, operation by operation, each rounded once. Constants stand by their bit patterns.
 -- fdlibm's k, by which the exponent of the result is moved, is n here, or -n where the sign bit s of x is 1.
-use Rattle.std.specs.Prelude.{ℕ, ◌+◌, ◌-◌, ◌*◌, ◌/◌, ◌%◌, ◌^◌, List, [], ◌∷◌, Float}
+use Rattle.std.specs.Prelude.{ℕ, ◌+◌, ◌-◌, ◌*◌, ◌/◌, ◌%◌, ◌^◌, List, [], ◌∷◌, Float, if◌then◌else◌}
 use Rattle.std.specs.Float.Ieee.{neg, lt, to_unsigned}
-use Rattle.number.specs.Number.{if◌then◌else◌, ◌<?◌, ◌≤?◌, ◌=?◌, ◌⊕◌, ◌⊖◌, ◌⊗◌, ◌⊘◌, pattern_of, float, of_whole, zero⁺, one, two}
+use Rattle.number.specs.Number.{◌<?◌, ◌≤?◌, ◌=?◌, ◌⊕◌, ◌⊖◌, ◌⊗◌, ◌⊘◌, pattern_of, float, of_whole, zero⁺, one, two}
 use Rattle.number.specs.Table.{◌!◌}
 
 -- ---- constants
@@ -59,8 +59,8 @@ exp_part hi lo =
 unfoldable pub exp_scale : Float → ℕ → ℕ → Float
 exp_scale y n s =
     if s =? 0 then float (pattern_of y + n * 2 ^ 52)
-    else if n ≤? 1021 then float (pattern_of y - n * 2 ^ 52)
-    else float (pattern_of y - (n - 1000) * 2 ^ 52) ⊗ two_m1000
+    else (if n ≤? 1021 then float (pattern_of y - n * 2 ^ 52)
+    else float (pattern_of y - (n - 1000) * 2 ^ 52) ⊗ two_m1000)
 
 -- ---- the reduction: x is k * ln 2 + hi - lo
 
@@ -87,8 +87,8 @@ exp_near x s = exp_scale (exp_part (x ⊖ ln2_hi ! s) (ln2_lo ! s)) 1 s
 unfoldable pub exp_reduce : Float → ℕ → ℕ → Float
 exp_reduce x hx s =
     if 0x3fd6_2e42 <? hx then if hx <? 0x3ff0_a2b2 then exp_near x s else exp_far x s
-    else if hx <? 0x3e30_0000 then one ⊕ x
-    else exp_zero x
+    else (if hx <? 0x3e30_0000 then one ⊕ x
+    else exp_zero x)
 
 -- ---- all arguments
 
@@ -96,9 +96,9 @@ exp_reduce x hx s =
 unfoldable pub exp_large : Float → ℕ → ℕ → Float
 exp_large x hx s =
     if 0x7ff0_0000 ≤? hx then if pattern_of x % 2 ^ 52 =? 0 then if s =? 0 then x else zero⁺ else x ⊕ x
-    else if lt over_at x then huge ⊗ huge
-    else if lt x under_at then two_m1000 ⊗ two_m1000
-    else exp_reduce x hx s
+    else (if lt over_at x then huge ⊗ huge
+    else (if lt x under_at then two_m1000 ⊗ two_m1000
+    else exp_reduce x hx s))
 
 unfoldable pub exp_of : Float → Float
 exp_of x =

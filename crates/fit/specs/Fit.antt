@@ -1,9 +1,9 @@
 -- The fit: EM passes from the start parameters until the log-likelihood gains no more than tol, or max_iter of them; then a closing pass at the
 -- parameters reached. After Dempster, Laird and Rubin (1977), Hamilton (1990), and document 01, "Fit"; model.rs, `fit`.
-use Rattle.std.specs.Prelude.{ℕ, zero, suc, Bool, true, false, not, ◌&&◌, List, Float}
+use Rattle.std.specs.Prelude.{ℕ, zero, suc, Bool, true, false, not, ◌&&◌, List, Float, if◌then◌else◌}
 use Rattle.std.specs.Float.Ieee.{le}
 use Rattle.std.specs.Float.Ieee.Scale.{finite}
-use Rattle.number.specs.Number.{if◌then◌else◌, ◌<?◌, ◌⊖◌, zero⁺}
+use Rattle.number.specs.Number.{◌<?◌, ◌⊖◌, zero⁺}
 use Rattle.refusal.specs.Checks.{◌before◌, ◌when◌}
 use Rattle.refusal.specs.declared.Check.{Check}
 use Rattle.refusal.specs.declared.Check.TheVariants.{Passed, Failed}

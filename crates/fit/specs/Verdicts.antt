@@ -1,7 +1,7 @@
 -- What the steps of the code give: what a pass says before its step, and what the end of the passes says. The proofs show that it is the definition's.
-use Rattle.std.specs.Prelude.{ℕ, suc, true, false, not, List, Float}
+use Rattle.std.specs.Prelude.{ℕ, suc, true, false, not, List, Float, if◌then◌else◌}
 use Rattle.std.specs.Float.Ieee.Scale.{finite}
-use Rattle.number.specs.Number.{if◌then◌else◌, zero⁺}
+use Rattle.number.specs.Number.{zero⁺}
 use Rattle.refusal.specs.Checks.{◌before◌, ◌when◌}
 use Rattle.refusal.specs.declared.Check.{Check}
 use Rattle.refusal.specs.declared.Check.TheVariants.{Passed, Failed}

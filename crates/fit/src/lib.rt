@@ -1,9 +1,8 @@
 // The fit by EM, in lent memory: passes of filter, smoother and step, and a closing pass.
 #![tactic(auto)]
 
-ghost use Rattle.std.specs.Prelude.{◌≡◌, ℕ, suc, ◌+◌, ◌*◌, ◌^◌, ◌<◌, ◌≤◌, length, drop, Bool, not, List, Float};
+ghost use Rattle.std.specs.Prelude.{◌≡◌, ℕ, suc, ◌+◌, ◌*◌, ◌^◌, ◌<◌, ◌≤◌, length, drop, Bool, not, List, Float, if◌then◌else◌};
 ghost use Rattle.std.specs.Float.Ieee.Scale.{finite};
-ghost use Rattle.number.specs.Number.{if◌then◌else◌};
 ghost use Rattle.refusal.specs.Checks.{◌when◌};
 ghost use Rattle.refusal.specs.declared.Refusal.TheVariants.{Loglike};
 ghost use Rattle.refusal.specs.declared.Check.TheVariants.{Passed, Failed};

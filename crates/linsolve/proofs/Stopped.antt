@@ -1,4 +1,5 @@
 -- The column at which elimination stops is the first whose pivot is too small, and where there is such a column it stops there. Assumes nothing.
+use Rattle.std.specs.Prelude.{if◌then◌else◌}
 use Prim.Native.Nat.{ℕ, zero, suc, ◌≤◌}
 use mathlib.Core.Path.{◌≡◌, refl, subst, ◌∙◌}
 use mathlib.Core.Bool.{Bool, true, false}
@@ -6,7 +7,7 @@ use mathlib.Core.List.{List}
 use native.Mathlib.Omega.{arith}
 use borrow.Author.Tests.{le-ltb}
 use lib.Ieee.{Float}
-use Rattle.number.specs.Number.{if◌then◌else◌, ◌<?◌}
+use Rattle.number.specs.Number.{◌<?◌}
 use Rattle.linsolve.specs.Solver.{System, system, Elimination, cleared, stopped_at, is_small, column, and_then, eliminate_to, zeros, answer, solve_of, FirstSmall}
 use Rattle.linsolve.specs.declared.Outcome.TheVariants.{Singular, TooLarge}
 use Rattle.linsolve.proofs.Steps.{stays_stopped}

@@ -1,6 +1,6 @@
 -- What the private functions promise: how a part of a table changes, how far the pivot was sought, that two arrays hold a system.
-use Rattle.std.specs.Prelude.{ℕ, suc, ◌+◌, ◌-◌, ◌<◌, ◌≤◌, ◌≡◌, Bool, List, length, Float}
-use Rattle.number.specs.Number.{if◌then◌else◌, ◌⊖◌, ◌⊗◌, magnitude_of}
+use Rattle.std.specs.Prelude.{ℕ, suc, ◌+◌, ◌-◌, ◌<◌, ◌≤◌, ◌≡◌, Bool, List, length, Float, if◌then◌else◌}
+use Rattle.number.specs.Number.{◌⊖◌, ◌⊗◌, magnitude_of}
 use Rattle.number.specs.Table.{◌!◌, cell, fill_at}
 use Rattle.linsolve.specs.Solver.{System, system, pivot_to, Elimination, cleared, stopped_at}
 

@@ -2,9 +2,9 @@
 -- After Golub and Van Loan, Matrix Computations, 4th edition: algorithm 3.4.1 (elimination with partial pivoting) and 3.1.2 (back-substitution by
 -- rows); the order of operations is that of `solve` in linsolve.rs, and document 01, "Solver" and refusal 21, and document 02, Q-4.
 -- c is the column that is cleared and the row its pivot goes to, i the row where the pivot is found, r any other row; d counts those done.
-use Rattle.std.specs.Prelude.{ℕ, zero, suc, ◌+◌, ◌-◌, ◌*◌, ◌<◌, ◌≡◌, Bool, true, List, set, replicate, Float}
+use Rattle.std.specs.Prelude.{ℕ, zero, suc, ◌+◌, ◌-◌, ◌*◌, ◌<◌, ◌≡◌, Bool, true, List, set, replicate, Float, if◌then◌else◌}
 use Rattle.std.specs.Float.Ieee.{lt, ne}
-use Rattle.number.specs.Number.{if◌then◌else◌, ◌<?◌, ◌=?◌, ◌⊖◌, ◌⊗◌, ◌⊘◌, float, zero⁺, magnitude_of}
+use Rattle.number.specs.Number.{◌<?◌, ◌=?◌, ◌⊖◌, ◌⊗◌, ◌⊘◌, float, zero⁺, magnitude_of}
 use Rattle.number.specs.Table.{◌!◌, cell, fill_at}
 use Rattle.linsolve.specs.declared.Solution.{Solution}
 use Rattle.linsolve.specs.declared.Outcome.TheVariants.{Solved, Singular, TooLarge}

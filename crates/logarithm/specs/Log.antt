@@ -1,10 +1,10 @@
 -- The logarithm: fdlibm 5.3, e_log.c, operation by operation, each rounded once. Constants stand by their bit patterns.
 -- fdlibm's k is a - base: a is the exponent's field, one more where x is halved; base is the field's bias, 1023, or 1077 where x
 -- was multiplied by 2 ^ 54 first. So x is 2 ^ k * (1 + f), with 1 + f from the root of 1/2 to the root of 2.
-use Rattle.std.specs.Prelude.{ℕ, ◌+◌, ◌-◌, ◌*◌, ◌/◌, ◌%◌, ◌^◌, List, [], ◌∷◌, Float}
+use Rattle.std.specs.Prelude.{ℕ, ◌+◌, ◌-◌, ◌*◌, ◌/◌, ◌%◌, ◌^◌, List, [], ◌∷◌, Float, if◌then◌else◌}
 use Rattle.std.specs.Float.{binary64}
 use Rattle.std.specs.Float.Ieee.{eq, of_int, minus}
-use Rattle.number.specs.Number.{if◌then◌else◌, ◌<?◌, ◌≤?◌, ◌=?◌, ◌⊕◌, ◌⊖◌, ◌⊗◌, ◌⊘◌, pattern_of, float, zero⁺, half, one, two}
+use Rattle.number.specs.Number.{◌<?◌, ◌≤?◌, ◌=?◌, ◌⊕◌, ◌⊖◌, ◌⊗◌, ◌⊘◌, pattern_of, float, zero⁺, half, one, two}
 use Rattle.number.specs.Table.{◌!◌}
 
 -- ---- constants
@@ -46,8 +46,8 @@ log_close f a base =
     let dk = dk_of a base in
     let R = f ⊗ f ⊗ (half ⊖ third ⊗ f) in
     if eq f zero⁺ then if a =? base then zero⁺ else dk ⊗ ln2_hi ⊕ dk ⊗ ln2_lo
-    else if a =? base then f ⊖ R
-    else dk ⊗ ln2_hi ⊖ (R ⊖ dk ⊗ ln2_lo ⊖ f)
+    else (if a =? base then f ⊖ R
+    else dk ⊗ ln2_hi ⊖ (R ⊖ dk ⊗ ln2_lo ⊖ f))
 
 -- t2 + t1, the odd and the even terms of the polynomial
 unfoldable pub log_poly : Float → Float
@@ -77,8 +77,8 @@ log_far f m a base =
     let s = f ⊘ (two ⊕ f) in
     let R = log_poly (s ⊗ s) in
     if m <? 0x6_147a then log_out f s R a base
-    else if 0x6_b851 <? m then log_out f s R a base
-    else log_mid f s R a base
+    else (if 0x6_b851 <? m then log_out f s R a base
+    else log_mid f s R a base)
 
 -- ---- all arguments
 
@@ -96,7 +96,7 @@ unfoldable pub log_of : Float → Float
 log_of x =
     let b = pattern_of x in
     if b % 2 ^ 63 =? 0 then minus_two54 ⊘ zero⁺
-    else if 2 ^ 63 ≤? b then (x ⊖ x) ⊘ zero⁺
-    else if 0x7ff0_0000_0000_0000 ≤? b then x ⊕ x
-    else if b <? 2 ^ 52 then log_normal (pattern_of (x ⊗ two54)) 1077
-    else log_normal b 1023
+    else (if 2 ^ 63 ≤? b then (x ⊖ x) ⊘ zero⁺
+    else (if 0x7ff0_0000_0000_0000 ≤? b then x ⊕ x
+    else (if b <? 2 ^ 52 then log_normal (pattern_of (x ⊗ two54)) 1077
+    else log_normal b 1023)))

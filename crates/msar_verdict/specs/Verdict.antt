@@ -2,9 +2,9 @@
 -- A run of the regime is settled once it lasts three expected durations. Of the stays in a regime that the model expects, fewer than one in
 -- twenty last three times their mean ((1 - 1/d)^(3d - 1) < 1/20), so a run as long as that is no passing visit. And thirty readings in a row,
 -- a month of shows, are acted on whether or not the model expects the stay to end.
-use Rattle.std.specs.Prelude.{ℕ, zero, suc, ◌+◌, ◌-◌, ◌*◌, Bool, List, get_or, Float}
+use Rattle.std.specs.Prelude.{ℕ, zero, suc, ◌+◌, ◌-◌, ◌*◌, Bool, List, get_or, Float, if◌then◌else◌}
 use Rattle.std.specs.Float.Ieee.{lt, le}
-use Rattle.number.specs.Number.{if◌then◌else◌, ◌≤?◌, ◌=?◌, ◌⊗◌, of_whole, float, zero⁺, half}
+use Rattle.number.specs.Number.{◌≤?◌, ◌=?◌, ◌⊗◌, of_whole, float, zero⁺, half}
 use Rattle.msar_verdict.specs.declared.Verdict.{Verdict}
 use Rattle.msar_verdict.specs.declared.Verdict.TheVariants.{No, NotSettled, Settled}
 use Rattle.msar_verdict.specs.declared.Finding.{Finding}
@@ -56,7 +56,7 @@ needed_of d = least_from d 3 (30 - 3)
 
 -- settled: needed ≤ run; not settled: a run, but a shorter one
 unfoldable pub verdict_of : ℕ → ℕ → Verdict
-verdict_of run needed = if run =? 0 then No else if needed ≤? run then Settled else NotSettled
+verdict_of run needed = if run =? 0 then No else (if needed ≤? run then Settled else NotSettled)
 
 -- since: the row with which the run begins, n where there is none
 unfoldable pub finding_of : List Float → ℕ → ℕ → ℕ → Float → Finding

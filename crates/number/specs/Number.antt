@@ -1,17 +1,13 @@
 -- Numbers of binary64: the operations of document 01's steps, each rounded once (⊕ ⊖ ⊗ ⊘), bit patterns, tests, and what Rust has as
 -- methods of f64: magnitude and max. That a number is finite is `finite` of lib.Ieee.Scale. After IEEE 754 as lib.Ieee has it, and
 -- document 01, "The steps" and "Slips to shut out".
-use Rattle.std.specs.Prelude.{ℕ, Bool, false, cond, ◌&&◌, leb, ltb, eqb, pos}
+use Rattle.std.specs.Prelude.{ℕ, Bool, false, if◌then◌else◌, ◌&&◌, leb, ltb, eqb, pos}
 use lib.Ieee.{Float, nan, inf, fin, binary64, add, sub, mul, div, lt, eq, is_nan, of_bits, to_bits, of_int}
 use lib.Ieee.Scale.{finite}
 
-infixr 20 if◌then◌else◌
 infix 50 ◌<?◌ ◌≤?◌ ◌=?◌
 infixl 65 ◌⊕◌ ◌⊖◌
 infixl 70 ◌⊗◌ ◌⊘◌
-abbrev pub if◌then◌else◌ : {A : Type 0} → Bool → A → A → A
-if◌then◌else◌ b x y = cond b x y
-
 -- comparisons of whole numbers; those of binary64 are `lt`, `le`, `eq` and `ne` of lib.Ieee, where a NaN is neither below nor equal to anything
 abbrev pub ◌<?◌ : ℕ → ℕ → Bool
 ◌<?◌ a b = ltb a b
@@ -70,4 +66,4 @@ magnitude_of (fin s m e) = fin false m e
 -- the larger of two; of a NaN and another, the other; of two zeros their sum, which is +0 unless both are -0
 unfoldable pub max_of : Float → Float → Float
 max_of x y =
-    if is_nan x then y else if is_nan y then x else if lt x y then y else if lt y x then x else if eq x zero⁺ then x ⊕ y else x
+    if is_nan x then y else (if is_nan y then x else (if lt x y then y else (if lt y x then x else (if eq x zero⁺ then x ⊕ y else x))))

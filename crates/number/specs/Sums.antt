@@ -1,6 +1,6 @@
 -- Sums: they start at positive zero and run upward. After document 01, "The steps".
-use Rattle.std.specs.Prelude.{ℕ, zero, suc, Bool, Float}
-use Rattle.number.specs.Number.{if◌then◌else◌, ◌⊕◌, zero⁺}
+use Rattle.std.specs.Prelude.{ℕ, zero, suc, Bool, Float, if◌then◌else◌}
+use Rattle.number.specs.Number.{◌⊕◌, zero⁺}
 
 -- f 0 + f 1 + .. + f (n - 1)
 unfoldable pub sum_up : (ℕ → Float) → ℕ → Float

@@ -1,9 +1,9 @@
 -- What each number of a row must be, and the first place of a row that fails it.
 -- After document 01, "Refusals by number", which names the first place.
-use Rattle.std.specs.Prelude.{ℕ, zero, suc, Bool, ◌&&◌, Float}
+use Rattle.std.specs.Prelude.{ℕ, zero, suc, Bool, ◌&&◌, Float, if◌then◌else◌}
 use Rattle.std.specs.Float.Ieee.{le}
 use Rattle.std.specs.Float.Ieee.Scale.{finite}
-use Rattle.number.specs.Number.{if◌then◌else◌, ◌=?◌, usable}
+use Rattle.number.specs.Number.{◌=?◌, usable}
 use Rattle.number.specs.declared.Test.{Test}
 use Rattle.number.specs.declared.Test.TheVariants.{Finite, Usable, Between}
 

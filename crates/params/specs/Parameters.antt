@@ -1,9 +1,9 @@
 -- Parameters as a caller hands them in: arrays of which as many places are used as the counts say, and what they mean.
 -- After Hamilton (1989) and document 01, "The steps" (Transition, Density) and "Forms to alter".
-use Rattle.std.specs.Prelude.{ℕ, zero, suc, ◌+◌, ◌*◌, Bool, not, ◌&&◌, Float}
+use Rattle.std.specs.Prelude.{ℕ, zero, suc, ◌+◌, ◌*◌, Bool, not, ◌&&◌, Float, if◌then◌else◌}
 use Rattle.std.specs.Bool.{beq}
 use Rattle.std.specs.Float.{nan}
-use Rattle.number.specs.Number.{if◌then◌else◌, ◌=?◌}
+use Rattle.number.specs.Number.{◌=?◌}
 use Rattle.number.specs.Table.{◌!◌, cell}
 use Rattle.spec.specs.declared.MsarSpec.{MsarSpec}
 use Rattle.params.specs.declared.MsarParams.{MsarParams}

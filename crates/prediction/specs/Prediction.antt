@@ -1,7 +1,7 @@
 -- The prediction of a window: its probability before the reading is seen. The first comes from the stationary shares, a later one from the
 -- filtered row before it, by one of two rules. After Hamilton (1989), document 01, "First prediction", "Later", and document 02, Q-5.
-use Rattle.std.specs.Prelude.{ℕ, zero, suc, Bool, false, List, [], ◌∷◌, Float}
-use Rattle.number.specs.Number.{if◌then◌else◌, ◌=?◌, ◌⊗◌}
+use Rattle.std.specs.Prelude.{ℕ, zero, suc, Bool, false, List, [], ◌∷◌, Float, if◌then◌else◌}
+use Rattle.number.specs.Number.{◌=?◌, ◌⊗◌}
 use Rattle.number.specs.Sums.{sum_up}
 use Rattle.number.specs.Table.{◌!◌}
 use Rattle.window.specs.Windows.{label, predecessor}

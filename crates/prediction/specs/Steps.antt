@@ -1,7 +1,7 @@
 -- What the steps of the code give: by window number, with the sum over predecessors made once for the k windows that share it. The proofs show
 -- that they are the prediction's.
-use Rattle.std.specs.Prelude.{ℕ, suc, ◌+◌, ◌*◌, ◌/◌, List, Float}
-use Rattle.number.specs.Number.{if◌then◌else◌, ◌⊗◌}
+use Rattle.std.specs.Prelude.{ℕ, suc, ◌+◌, ◌*◌, ◌/◌, List, Float, if◌then◌else◌}
+use Rattle.number.specs.Number.{◌⊗◌}
 use Rattle.number.specs.Sums.{sum_up}
 use Rattle.number.specs.Table.{◌!◌, cell}
 use Rattle.window.specs.Windows.{label, labels}

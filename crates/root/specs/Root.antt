@@ -1,10 +1,10 @@
 -- The root of a binary64, to the nearest binary64: `IsRoot x r` says that r is it, and `root_of x` works it out.
 -- After IEEE 754-2019, section 5.4.1, squareRoot, and document 01, "Root: the nearest binary64, stated by comparing whole-number squares".
-use Rattle.std.specs.Prelude.{◌≡◌, ℕ, zero, suc, ◌+◌, ◌-◌, ◌*◌, ◌/◌, ◌^◌, ◌<◌, true, false, T, Float}
+use Rattle.std.specs.Prelude.{◌≡◌, ℕ, zero, suc, ◌+◌, ◌-◌, ◌*◌, ◌/◌, ◌^◌, ◌<◌, true, false, T, Float, if◌then◌else◌}
 use Rattle.std.specs.Float.{nan, inf, fin, binary64}
 use Rattle.std.specs.Float.Ieee.{fits, size}
 use Rattle.std.specs.Float.Ieee.Positive.{positive}
-use Rattle.number.specs.Number.{if◌then◌else◌, ◌≤?◌, float}
+use Rattle.number.specs.Number.{◌≤?◌, float}
 use Rattle.rounding.specs.Units.{in_units}
 
 abbrev pub square : ℕ → ℕ

@@ -1,5 +1,6 @@
 -- Arrays of sums over places: cell c of an array sums f c over the places before e at which the test t c holds. None so far, and one place more.
 -- Assumes nothing.
+use Rattle.std.specs.Prelude.{if◌then◌else◌}
 use Prim.Native.Nat.{ℕ, ◌+◌, ◌<◌, ◌≤◌}
 use mathlib.Core.Path.{◌≡◌, refl, sym, ◌∙◌}
 use mathlib.Core.Logic.{◌≢◌}
@@ -9,7 +10,7 @@ use native.Mathlib.Omega.{arith}
 use borrow.Author.Tests.{eq-eqb, ne_eqb}
 use lib.ListN.{length, set, replicate, length-replicate, get_or-replicate}
 use lib.Ieee.{Float, nan}
-use Rattle.number.specs.Number.{if◌then◌else◌, ◌=?◌, ◌⊕◌, zero⁺}
+use Rattle.number.specs.Number.{◌=?◌, ◌⊕◌, zero⁺}
 use Rattle.number.specs.Table.{◌!◌, fill_at}
 use Rattle.number.proofs.Sums.{where_none, where_more, where_same}
 use Rattle.number.proofs.Table.{fill_is, fill_set, fill_at_lem, fill_long, fill_at_ext, fill_at_past}

@@ -1,9 +1,9 @@
 -- What the steps of the code give, by window number: the windows with label i now are i, i + k, i + 2·k, .. The proofs show that these sums are the
 -- probabilities of the labels. Which rows are kept in memory. And what the steps of the EM step keep: arrays of sums over the places of the smoothed
 -- table.
-use Rattle.std.specs.Prelude.{ℕ, ◌+◌, ◌*◌, ◌/◌, ◌%◌, Bool, ◌&&◌, List, drop, Float}
+use Rattle.std.specs.Prelude.{ℕ, ◌+◌, ◌*◌, ◌/◌, ◌%◌, Bool, ◌&&◌, List, drop, Float, if◌then◌else◌}
 use Rattle.std.specs.Float.Ieee.{ne}
-use Rattle.number.specs.Number.{if◌then◌else◌, ◌<?◌, ◌=?◌, ◌⊘◌, zero⁺}
+use Rattle.number.specs.Number.{◌<?◌, ◌=?◌, ◌⊘◌, zero⁺}
 use Rattle.number.specs.Sums.{sum_up, sum_where}
 use Rattle.number.specs.Table.{◌!◌, fill_at}
 use Rattle.params.specs.Parameters.{block_of}

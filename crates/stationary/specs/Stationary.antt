@@ -1,9 +1,9 @@
 -- The stationary shares π of the regimes: P π = π with sum 1, solved as (I - P) π = 0 with the last equation replaced by the sum.
 -- After Hamilton (1994), 22.2, and document 01, "Stationary shares", refusals 21 and 22.
-use Rattle.std.specs.Prelude.{ℕ, suc, ◌*◌, ◌/◌, ◌%◌, Bool, not, ◌&&◌, List, replicate, Float}
+use Rattle.std.specs.Prelude.{ℕ, suc, ◌*◌, ◌/◌, ◌%◌, Bool, not, ◌&&◌, List, replicate, Float, if◌then◌else◌}
 use Rattle.std.specs.Float.Ieee.{le}
 use Rattle.std.specs.Float.Ieee.Scale.{finite}
-use Rattle.number.specs.Number.{if◌then◌else◌, ◌=?◌, ◌⊖◌, float, zero⁺, one}
+use Rattle.number.specs.Number.{◌=?◌, ◌⊖◌, float, zero⁺, one}
 use Rattle.number.specs.Table.{◌!◌, cell, fill_at}
 use Rattle.refusal.specs.Checks.{◌when◌, each}
 use Rattle.refusal.specs.declared.Check.{Check}

@@ -8,8 +8,8 @@
 -- is not zero and comes later is at fault. The exponent is from -400 to 400: the digit that leads past 400 is at fault. Zeros
 -- before and after are free. Else a byte that cannot stand where it stands is at fault; and where the text ends too early, its length
 -- is the place.
-use Rattle.std.specs.Prelude.{ℕ, ◌+◌, ◌-◌, ◌*◌, ◌^◌, true, false}
-use Rattle.number.specs.Number.{if◌then◌else◌, ◌<?◌, ◌≤?◌, ◌=?◌}
+use Rattle.std.specs.Prelude.{ℕ, ◌+◌, ◌-◌, ◌*◌, ◌^◌, true, false, if◌then◌else◌}
+use Rattle.number.specs.Number.{◌<?◌, ◌≤?◌, ◌=?◌}
 use Rattle.text_decimal_grammar.specs.declared.Place.{Place}
 use Rattle.text_decimal_grammar.specs.declared.Place.TheVariants.{Start, Sign, Zero, Whole, Point, Fraction, Mark, MarkSign, Exponent, I, In, Inf, N, Na, Nan, Hex}
 use Rattle.text_decimal_grammar.specs.declared.State.{State}
@@ -20,18 +20,18 @@ use Rattle.text_decimal_grammar.specs.declared.Next.TheVariants.{Go, Fault}
 
 -- what a byte is as a decimal digit, 10 where it is none
 unfoldable pub digit_of : ℕ → ℕ
-digit_of c = if c <? 48 then 10 else if 57 <? c then 10 else c - 48
+digit_of c = if c <? 48 then 10 else (if 57 <? c then 10 else c - 48)
 
 -- and as a hexadecimal digit, 16 where it is none
 unfoldable pub hex_of : ℕ → ℕ
 unfolding digit_of
 hex_of c =
     if digit_of c <? 10 then digit_of c
-    else if c <? 65 then 16
-    else if c ≤? 70 then c - 55
-    else if c <? 97 then 16
-    else if c ≤? 102 then c - 87
-    else 16
+    else (if c <? 65 then 16
+    else (if c ≤? 70 then c - 55
+    else (if c <? 97 then 16
+    else (if c ≤? 102 then c - 87
+    else 16))))
 
 -- ---- what is read so far: digits * 10 ^ up / 10 ^ down, times ten to the exponent, and what came last
 
@@ -55,9 +55,9 @@ unfoldable pub whole_digit : State → ℕ → Next
 whole_digit s d =
     if s.digits <? 10 ^ 18
     then Go (record { place = Whole; negative = s.negative; digits = s.digits * 10 + d; up = s.up; down = s.down; under = s.under; exponent = s.exponent })
-    else if d =? 0
+    else (if d =? 0
     then Go (record { place = Whole; negative = s.negative; digits = s.digits; up = s.up + 1; down = s.down; under = s.under; exponent = s.exponent })
-    else Fault
+    else Fault)
 
 -- a digit after the point
 unfoldable pub fraction_digit : State → ℕ → Next
@@ -65,7 +65,7 @@ unfolding moved
 fraction_digit s d =
     if s.digits <? 10 ^ 18
     then Go (record { place = Fraction; negative = s.negative; digits = s.digits * 10 + d; up = s.up; down = s.down + 1; under = s.under; exponent = s.exponent })
-    else if d =? 0 then Go (moved s Fraction) else Fault
+    else (if d =? 0 then Go (moved s Fraction) else Fault)
 
 unfoldable pub exponent_digit : State → ℕ → Next
 exponent_digit s d =
@@ -80,28 +80,28 @@ hex_digit s n d =
 
 unfoldable pub mark : State → ℕ → Next
 unfolding moved
-mark s c = if c =? 101 then Go (moved s Mark) else if c =? 69 then Go (moved s Mark) else Fault
+mark s c = if c =? 101 then Go (moved s Mark) else (if c =? 69 then Go (moved s Mark) else Fault)
 
 unfoldable pub after_sign : State → ℕ → Next
 unfolding digit_of whole_digit moved
 after_sign s c =
     if digit_of c <? 10 then whole_digit s (digit_of c)
-    else if c =? 46 then Go (moved s Point)
-    else if c =? 105 then Go (moved s I)
-    else if c =? 110 then Go (moved s N)
-    else Fault
+    else (if c =? 46 then Go (moved s Point)
+    else (if c =? 105 then Go (moved s I)
+    else (if c =? 110 then Go (moved s N)
+    else Fault)))
 
 unfoldable pub at_start : State → ℕ → Next
 unfolding moved minus after_sign
 at_start s c =
     if c =? 43 then Go (moved s Sign)
-    else if c =? 45 then Go (minus s)
-    else if c =? 48 then Go (moved s Zero)
-    else after_sign s c
+    else (if c =? 45 then Go (minus s)
+    else (if c =? 48 then Go (moved s Zero)
+    else after_sign s c))
 
 unfoldable pub in_whole : State → ℕ → Next
 unfolding digit_of whole_digit moved mark
-in_whole s c = if digit_of c <? 10 then whole_digit s (digit_of c) else if c =? 46 then Go (moved s Fraction) else mark s c
+in_whole s c = if digit_of c <? 10 then whole_digit s (digit_of c) else (if c =? 46 then Go (moved s Fraction) else mark s c)
 
 -- the text is `0` so far
 unfoldable pub after_zero : State → ℕ → Next
@@ -122,7 +122,7 @@ in_exponent s c = if digit_of c <? 10 then exponent_digit s (digit_of c) else Fa
 
 unfoldable pub after_mark : State → ℕ → Next
 unfolding moved minus_exponent in_exponent
-after_mark s c = if c =? 43 then Go (moved s MarkSign) else if c =? 45 then Go (minus_exponent s) else in_exponent s c
+after_mark s c = if c =? 43 then Go (moved s MarkSign) else (if c =? 45 then Go (minus_exponent s) else in_exponent s c)
 
 -- the next letter of a word
 unfoldable pub in_word : State → ℕ → ℕ → Place → Next

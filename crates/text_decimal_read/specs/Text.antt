@@ -1,9 +1,9 @@
 -- A number as text: what text is a number, and which; of any other text, the place of the first byte at fault, the text's length where it ends
 -- too early. The value is the exact fraction, rounded once by lib.Ieee's `round`. The grammar is text_decimal_grammar's.
-use Rattle.std.specs.Prelude.{ℕ, suc, ◌+◌, ◌*◌, ◌^◌, List, [], ◌∷◌, Float}
+use Rattle.std.specs.Prelude.{ℕ, suc, ◌+◌, ◌*◌, ◌^◌, List, [], ◌∷◌, Float, if◌then◌else◌}
 use Rattle.std.specs.Float.{nan, inf, binary64}
 use Rattle.std.specs.Float.Ieee.{round}
-use Rattle.number.specs.Number.{if◌then◌else◌, ◌=?◌, float}
+use Rattle.number.specs.Number.{◌=?◌, float}
 use Rattle.text_decimal_grammar.specs.declared.Place.{Place}
 use Rattle.text_decimal_grammar.specs.declared.Place.TheVariants.{Start, Sign, Zero, Whole, Point, Fraction, Mark, MarkSign, Exponent, I, In, Inf, N, Na, Nan, Hex}
 use Rattle.text_decimal_grammar.specs.declared.State.{State}

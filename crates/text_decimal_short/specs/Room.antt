@@ -1,6 +1,6 @@
 -- What the functions of this crate hand to each other. No other crate's contract cites it.
-use Rattle.std.specs.Prelude.{ℕ, List, [], ◌∷◌}
-use Rattle.number.specs.Number.{if◌then◌else◌, ◌<?◌}
+use Rattle.std.specs.Prelude.{ℕ, List, [], ◌∷◌, if◌then◌else◌}
+use Rattle.number.specs.Number.{◌<?◌}
 use Rattle.text_decimal_write.specs.Room.{units_of}
 use Rattle.text_decimal_short.specs.Short.{short_units}
 

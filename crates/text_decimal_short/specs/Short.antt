@@ -2,10 +2,10 @@
 -- Two roundings, each with a tie to the even digit: to the decimal of 17 digits nearest to the number (crates/text_decimal_write), and that
 -- one to n digits. C rounds once. The two differ only where what lies behind the n-th of the 17 digits is 5000.. and the number itself does
 -- not lie exactly there.
-use Rattle.std.specs.Prelude.{ℕ, zero, suc, ◌+◌, ◌-◌, ◌/◌, ◌%◌, ◌^◌, List, [], ◌∷◌, ◌++◌, Float}
+use Rattle.std.specs.Prelude.{ℕ, zero, suc, ◌+◌, ◌-◌, ◌/◌, ◌%◌, ◌^◌, List, [], ◌∷◌, ◌++◌, Float, if◌then◌else◌}
 use Rattle.std.specs.Float.{nan, inf, fin, binary64}
 use Rattle.std.specs.Float.Ieee.Nearest.{closest}
-use Rattle.number.specs.Number.{if◌then◌else◌, ◌<?◌, ◌=?◌}
+use Rattle.number.specs.Number.{◌<?◌, ◌=?◌}
 use Rattle.rounding.specs.Units.{in_units}
 use Rattle.text_decimal_write.specs.declared.Decimal.{Decimal}
 use Rattle.text_decimal_write.specs.declared.Written.{Written}
@@ -62,7 +62,7 @@ fixed n d = pointed_text (whole_digits d.tens) (n + 323 - d.tens) d.digits
 -- style f where X >= -4 and P > X, else style e
 unfoldable pub laid_out : ℕ → Decimal → List ℕ
 unfolding scientific fixed
-laid_out n d = if d.tens <? 320 then scientific n d else if d.tens <? n + 324 then fixed n d else scientific n d
+laid_out n d = if d.tens <? 320 then scientific n d else (if d.tens <? n + 324 then fixed n d else scientific n d)
 
 -- ---- the text of a number
 
@@ -79,7 +79,7 @@ short_text n (fin s m e) = sign_text s ++ short_units n (in_units binary64 (fin 
 
 -- n outside 1 to 17 counts as the nearest of the two
 unfoldable pub allowed : ℕ → ℕ
-allowed n = if n <? 1 then 1 else if 17 <? n then 17 else n
+allowed n = if n <? 1 then 1 else (if 17 <? n then 17 else n)
 
 unfoldable pub short_of : Float → ℕ → Written
 unfolding allowed short_text

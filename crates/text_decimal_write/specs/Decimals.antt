@@ -2,10 +2,10 @@
 -- sign is set, a zero's too; one digit before the point and 16 after it; the exponent's sign, always, and three digits of it. And `inf`,
 -- `-inf`, `nan`.
 -- The nearest is by the exact distance. A tie, where a number lies halfway between two decimals of 17 digits, goes to the even last digit.
-use Rattle.std.specs.Prelude.{ℕ, zero, suc, ◌+◌, ◌-◌, ◌*◌, ◌/◌, ◌%◌, ◌^◌, Bool, true, false, List, [], ◌∷◌, ◌++◌, length, replicate, Float}
+use Rattle.std.specs.Prelude.{ℕ, zero, suc, ◌+◌, ◌-◌, ◌*◌, ◌/◌, ◌%◌, ◌^◌, Bool, true, false, List, [], ◌∷◌, ◌++◌, length, replicate, Float, if◌then◌else◌}
 use Rattle.std.specs.Float.{nan, inf, fin, binary64}
 use Rattle.std.specs.Float.Ieee.Nearest.{closest}
-use Rattle.number.specs.Number.{if◌then◌else◌, ◌<?◌, ◌≤?◌, ◌=?◌}
+use Rattle.number.specs.Number.{◌<?◌, ◌≤?◌, ◌=?◌}
 use Rattle.rounding.specs.Units.{in_units}
 use Rattle.text_decimal_write.specs.declared.Decimal.{Decimal}
 use Rattle.text_decimal_write.specs.declared.Written.{Written}

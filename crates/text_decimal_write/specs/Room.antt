@@ -1,6 +1,6 @@
 -- What the functions of this crate hand to each other. `units_of` also serves crates/text_decimal_short; no other crate's contract cites it.
-use Rattle.std.specs.Prelude.{ℕ, ◌+◌, ◌-◌, ◌*◌, ◌/◌, ◌%◌, ◌^◌, List, [], ◌∷◌}
-use Rattle.number.specs.Number.{if◌then◌else◌, ◌<?◌}
+use Rattle.std.specs.Prelude.{ℕ, ◌+◌, ◌-◌, ◌*◌, ◌/◌, ◌%◌, ◌^◌, List, [], ◌∷◌, if◌then◌else◌}
+use Rattle.number.specs.Number.{◌<?◌}
 use Rattle.text_decimal_write.specs.Decimals.{units_text}
 
 -- of a number of z binary digits, in units: its tens, or one less
