@@ -1,16 +1,15 @@
 # To be sourced: sets `cc`, a C compiler for x86-64, and `under`, what runs its programs, for this machine. The kit's archive is for
-# x86-64, so on Arm these are Debian's cross compiler and the kit's emulator. What is missing is installed where that is allowed;
-# else it says so and gives status 1.
+# x86-64, so on Arm these are Debian's cross compiler and emulator. What is missing is installed where that is allowed; else it says
+# so and gives status 1.
 cc=(gcc) under=()
 if [[ $(uname -m) != x86_64 ]]; then
     cc=(x86_64-linux-gnu-gcc -static)
-    if ! command -v "${cc[0]}" >/dev/null && [[ $(id -u) -eq 0 ]] && command -v apt-get >/dev/null; then
-        apt-get install -y gcc-x86-64-linux-gnu libc6-dev-amd64-cross >/dev/null 2>&1 || true
+    under=(qemu-x86_64)
+    if ! { command -v "${cc[0]}" && command -v "${under[0]}"; } >/dev/null && [[ $(id -u) -eq 0 ]] && command -v apt-get >/dev/null; then
+        apt-get install -y gcc-x86-64-linux-gnu libc6-dev-amd64-cross qemu-user >/dev/null 2>&1 || true
     fi
-    kit=${RATTLE_HOME:-$(dirname "$(dirname "$(readlink -f "$(command -v rt)")")")}
-    under=("$kit/on/$(uname -m)/toolchain/bin/qemu-x86_64")
-    if [[ ! -x ${under[0]} ]]; then
-        echo "what C links is passed over: the kit has no emulator for $(uname -m)"
+    if ! command -v "${under[0]}" >/dev/null; then
+        echo "what C links is passed over: ${under[0]} is missing and cannot be installed here (Debian: qemu-user)"
         return 1
     fi
 fi

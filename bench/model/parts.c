@@ -1,7 +1,7 @@
 /* Where the time of a filter goes: beside whole calls it times, on the same numbers, what no filter of these definitions can do
    without, n·m exponentials and 2·n·m divisions, and what this one does with memory: stores, label sums, clearing.
 
-       gcc -O2 -Iinclude bench/model/parts.c libc_interface.a -lm
+       gcc -O2 -Iinclude bench/model/parts.c crates/c_interface_c/out/libc_interface_c.a -lm
 
    Nanoseconds a window, the median of many turns, in processor time of the thread. */
 #define _POSIX_C_SOURCE 200809L

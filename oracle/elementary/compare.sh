@@ -8,7 +8,7 @@ if [[ $# -ne 2 || ! $1 =~ ^[0-9]+$ || ! $2 =~ ^[1-9][0-9]*$ ]]; then
     exit 2
 fi
 if [[ $(uname -m) != x86_64 ]]; then
-    echo "$0: the archive that rt staticlib writes is for x86-64, and this machine is $(uname -m)" >&2
+    echo "$0: the archive that rt lib writes is for x86-64, and this machine is $(uname -m)" >&2
     exit 2
 fi
 for tool in rt java javac gcc; do
@@ -21,10 +21,10 @@ room=$(mktemp -d)
 trap 'rm -rf "$room"' EXIT
 
 cd "$top"
-rt staticlib c_interface >"$room/said" 2>&1 || { cat "$room/said" >&2; exit 2; }
+(cd crates/c_interface_c && rt lib) >"$room/said" 2>&1 || { cat "$room/said" >&2; exit 2; }
 # no contraction, so that lnpdf's operations in C round one by one
 gcc -std=c11 -O2 -Wall -Wextra -ffp-contract=off -Iinclude -o "$room/compare" \
-    "$here/compare.c" target/staticlib/libc_interface.a || exit 2
+    "$here/compare.c" crates/c_interface_c/out/libc_interface_c.a || exit 2
 javac -d "$room" "$here"/*.java || exit 2
 java -version 2>&1 | sed -n '2p'
 java -cp "$room" Stream "$1" "$2" | "$room/compare" "${2}000000"

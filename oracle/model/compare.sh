@@ -26,7 +26,7 @@ done
 
 here=$(cd "$(dirname "${BASH_SOURCE[0]}")" && pwd)
 top=$(cd "$here/../.." && pwd)
-# the archive is for x86-64: on Arm it runs under the kit's emulator, beside the Rust compiled for this machine
+# the archive is for x86-64: on Arm it runs under an emulator, beside the Rust compiled for this machine
 . "$top/tests/compiler.sh" || exit 2
 room=$(mktemp -d)
 trap 'rm -rf "$room"' EXIT
@@ -35,8 +35,8 @@ export PYTHONDONTWRITEBYTECODE=1
 if [[ $# -eq 4 ]]; then
     header=$4 archive=$4/libc_interface.a
 else
-    (cd "$top" && rt staticlib c_interface) >"$room/said" 2>&1 || { cat "$room/said" >&2; exit 2; }
-    header=$top/include archive=$top/target/staticlib/libc_interface.a
+    (cd "$top/crates/c_interface_c" && rt lib) >"$room/said" 2>&1 || { cat "$room/said" >&2; exit 2; }
+    header=$top/include archive=$top/crates/c_interface_c/out/libc_interface_c.a
 fi
 "$here/build.sh" "$1" "$room"
 "${cc[@]}" -std=c11 -O2 -Wall -Wextra -Werror -I"$header" -o "$room/candidate" "$here/candidate.c" "$archive" || exit 2

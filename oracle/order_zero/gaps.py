@@ -2,7 +2,7 @@
 """How far msar at order 0 lies from enumerate.py and from statsmodels' MarkovRegression, and what its smoothed rows add up to.
 
 usage: gaps.py MSAR [PART ..]        without a PART all of them
-MSAR is the program: bin/msar, or target/bin/msar on x86-64. Models and series come from fixed seeds, one for each part.
+MSAR is the program: bin/msar, or crates/msar/out/msar on x86-64. Models and series come from fixed seeds, one for each part.
 
     a   rule 2 beside enumerate.py, 200 small models
     b   rule 2 beside statsmodels, 48 models of 200 to 500 readings

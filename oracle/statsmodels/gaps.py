@@ -2,7 +2,7 @@
 """How far msar's filter, smooth and loglike lie from statsmodels' MarkovAutoregression, with the same parameters.
 
 usage: python3 oracle/statsmodels/gaps.py MSAR
-MSAR is the program, target/bin/msar or bin/msar. The python3 must have numpy and statsmodels, as Debian's /usr/bin/python3 has
+MSAR is the program, crates/msar/out/msar or bin/msar. The python3 must have numpy and statsmodels, as Debian's /usr/bin/python3 has
 with the package python3-statsmodels.
 
 It draws models and series from a fixed seed: 2 and 3 regimes, order 1 to 4, AR and variances switching or shared, 200 to 500
