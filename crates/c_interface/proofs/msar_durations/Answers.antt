@@ -1,5 +1,4 @@
 -- `msar_durations` lists the expected durations under the parameters that its arrays stand for.
-use borrow.Author.Rules.{rules}
 use Rattle.c_interface.proofs.msar_durations.Goals as goal
 
 pub returns : goal.returns

@@ -1,6 +1,5 @@
 -- `msar_filter` leaves what `filter_call` on the records of its arrays gives, spelled.
 use Rattle.c_interface.proofs.Spelling.{leaves}
-use borrow.Author.Rules.{rules}
 use Rattle.c_interface.proofs.msar_filter.Goals as goal
 
 pub returns : goal.returns

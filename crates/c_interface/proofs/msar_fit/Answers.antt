@@ -1,6 +1,5 @@
 -- `msar_fit` leaves what `fit_call` on the records of its arrays gives, spelled and laid out.
 use Rattle.c_interface.proofs.Spelling.{fit_leaves}
-use borrow.Author.Rules.{rules}
 use Rattle.c_interface.proofs.msar_fit.Goals as goal
 
 pub returns : goal.returns

@@ -1,5 +1,4 @@
 -- `msar_matches` says whether the records of its arrays are of one shape.
-use borrow.Author.Rules.{rules}
 use Rattle.c_interface.proofs.msar_matches.Goals as goal
 
 pub returns : goal.returns

@@ -1,5 +1,4 @@
 -- `msar_shares` lists the stationary shares of the parameters that its arrays stand for.
-use borrow.Author.Rules.{rules}
 use Rattle.c_interface.proofs.msar_shares.Goals as goal
 
 pub returns : goal.returns

@@ -1,5 +1,4 @@
 -- `msar_windows` spells the number of windows of its spec.
-use borrow.Author.Rules.{rules}
 use Rattle.c_interface.proofs.msar_windows.Goals as goal
 
 pub returns : goal.returns
