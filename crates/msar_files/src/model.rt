@@ -273,7 +273,8 @@ pub fn read(rt: &impl EprintBytes, input: &mut impl Read, path: &[u8], own: &mut
         rt,
         b"too many lines in ",
         path,
-        io::Error::from(io::ErrorKind::FileTooLarge),
+        // no call failed: the system's words for its number 0
+        io::Error::from_raw_os_error(0),
     );
     bad(draft)
 }

@@ -1,12 +1,18 @@
--- One outcome of every function that has an entry in specs/: the entry points have it by one law, and of a function between crates two results, or
--- two states of its lent memory, are equal to the same. Assumes nothing.
+-- No second outcome satisfies a contract, of each public function of the library that has one: the entry points and what stands between crates.
+-- After document 01, "How much a contract says". The entry points have it by one law, and of a function between crates two results, or two states of
+-- its lent memory, are equal to the same. Assumes nothing.
 use mathlib.Core.Path.{refl, sym}
 use native.Mathlib.Nat.{mod-eq_of_lt}
 use Rattle.number.specs.Number.{zero⁺}
+use Rattle.promises.specs.EntryPoints.{EntryPoints}
 use Rattle.promises.specs.BetweenCrates.{BetweenCrates}
-use Rattle.promises.specs.OneOutcome.{EachHasOne}
 use Rattle.promises.proofs.Contracts.{one_outcome, both, asked, both_clauses}
 use Rattle.promises.proofs.EntryPoints.{entry_points}
+
+-- M: the logic's own resources, any
+pub record EachHasOne (M : Type 1) : Type 2 where
+  pub entry_points : EntryPoints M
+  pub between_crates : BetweenCrates M
 
 between_crates : (M : Type 1) → BetweenCrates M
 between_crates M =

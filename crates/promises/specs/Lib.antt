@@ -6,8 +6,6 @@ pub mod Types
 pub mod EntryPoints
 -- what serves the crates above, and has one outcome
 pub mod BetweenCrates
--- both
-pub mod OneOutcome
 -- demand 3 of the tables that the calls write
 pub mod Demand
 -- what is proved of the definitions themselves
