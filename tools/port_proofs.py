@@ -73,7 +73,6 @@ class Names:
         self.field = {}
         self.arm = {}
         self.named = set()
-        self.parent = {}
         by = it["places_by_name"]
         for i, (old, parent, (fo, fn), callee, _subs) in enumerate(it["places"]):
             if callee:
@@ -370,7 +369,7 @@ def turn(path, it, crate, func):
     if "tie.spec" not in text:
         return "no tie.spec"
     m = re.search(r"tie\.spec\b(.*)\)\s*$", text, re.S)
-    args = arguments(m[1].strip().rstrip(")") if False else m[1])
+    args = arguments(m[1])
     head = text[: text.rindex("\npub ")]
     found, head = projections(head)
     # what takes a place: a lemma over a place, or the members of a module over one
