@@ -2,13 +2,12 @@
 -- parameters under the spec.
 -- Which of these lengths a call asks for stands with the call.
 -- After document 01, "Refusals by number", 1 to 7 and 20, "Order for a model call", and "Bounds set by the port"; of work memory document 02, Q-8, of the rule Q-5.
-use Rattle.std.specs.Prelude.{ℕ, suc, ◌+◌, ◌-◌, ◌*◌, ◌^◌, not, ◌||◌, List, length, Float}
+use Rattle.std.specs.Prelude.{ℕ, suc, ◌+◌, ◌-◌, ◌*◌, ◌^◌, not, ◌||◌, List, length, Float, Result, Ok}
 use Rattle.std.specs.Float.Ieee.Scale.{finite}
 use Rattle.number.specs.Number.{◌<?◌, ◌≤?◌, ◌=?◌}
 use Rattle.number.specs.Table.{◌!◌}
-use Rattle.refusal.specs.Checks.{◌before◌, ◌when◌, each}
-use Rattle.refusal.specs.declared.Check.{Check}
-use Rattle.refusal.specs.declared.Check.TheVariants.{Passed, Failed}
+use Rattle.refusal.specs.Checks.{Check, ◌when◌, ◌before◌, each}
+use Rattle.refusal.specs.declared.Refusal.{Refusal}
 use Rattle.refusal.specs.declared.Refusal.TheVariants.{ShortSeries, LongSeries, Reading, Memory, OtherRule, Shape}
 use Rattle.spec.specs.Spec.{spec_check}
 use Rattle.spec.specs.declared.MsarSpec.{MsarSpec}
@@ -38,18 +37,10 @@ bound_check S y =
     before readings_check y
 
 -- with it the counts that a call works with: n = T - p rows, m = k^(p + 1) windows, k^p
-abbrev pub bound_after : Check → MsarSpec → List Float → Bound
-bound_after Passed S y =
-    record {
-      check = Passed;
-      rows = length y - S.order;
-      windows = S.k_regimes ^ suc S.order;
-      power = S.k_regimes ^ S.order;
-    }
-bound_after (Failed r) S y = record { check = Failed r; rows = 0; windows = 0; power = 0 }
-
-unfoldable pub bound_of : MsarSpec → List Float → Bound
-bound_of S y = bound_after (bound_check S y) S y
+unfoldable pub bound_of : MsarSpec → List Float → Result Bound Refusal
+bound_of S y =
+    bound_check S y
+    before Ok (record { rows = length y - S.order; windows = S.k_regimes ^ suc S.order; power = S.k_regimes ^ S.order })
 
 -- ---- lent memory
 

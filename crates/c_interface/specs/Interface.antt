@@ -2,23 +2,13 @@
 -- After include/msar.h, which says the same in C.
 use Rattle.std.specs.Prelude.{ℕ, Bool, List, Float}
 use Rattle.spec.specs.declared.MsarSpec.{MsarSpec}
-use Rattle.params.specs.declared.Durations.{Durations}
-use Rattle.stationary.specs.declared.Shares.{Shares}
 use Rattle.calls.specs.Calls.{Outcome}
 use Rattle.fit.specs.Calls.{FitOutcome}
-use Rattle.c_layout.specs.Layout.{spelled, Listed, listed, fit_spelled, numbers_after}
+use Rattle.c_layout.specs.Layout.{loglik_spelled, fit_spelled, numbers_after}
 
 abbrev pub spec_of : ℕ → ℕ → Bool → Bool → MsarSpec
 spec_of k p switchingAr switchingVariance =
     record { k_regimes = k; order = p; switching_ar = switchingAr; switching_variance = switchingVariance }
-
--- ---- an answer of 16 numbers
-
-abbrev pub durations_listed : Durations → List Float → Listed
-durations_listed d found = listed d.check d.values found
-
-abbrev pub shares_listed : Shares → List Float → Listed
-shares_listed s found = listed s.check s.values found
 
 -- ---- a call on a series: its answer, and what it leaves in lent memory. A call that takes no such table is lent the empty one
 
@@ -31,7 +21,7 @@ pub record Left : Type 0 where
 
 unfoldable pub left : Outcome → Left
 left o =
-    let told = spelled o.answer.check 0 o.answer.loglik in
+    let told = loglik_spelled o.answer in
     record { whole = told.whole; real = told.real; work = o.work; filtered = o.filtered; smoothed = o.smoothed }
 
 -- ---- a fit: its parameters too, laid out as they are handed in
@@ -45,12 +35,11 @@ pub record FitLeft : Type 0 where
 
 unfoldable pub fit_left : FitOutcome → List Float → FitLeft
 fit_left o found =
-    let f = o.answer in
-    let told = fit_spelled f.check f.loglik f.iterations f.converged in
+    let told = fit_spelled o.answer in
     record {
       whole = told.whole;
       real = told.real;
       work = o.work;
       smoothed = o.smoothed;
-      fitted = numbers_after f.check f.params found;
+      fitted = numbers_after o.answer found;
     }

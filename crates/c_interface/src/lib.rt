@@ -16,8 +16,8 @@ ghost use Rattle.params.specs.Durations.{durations_of};
 ghost use Rattle.stationary.specs.Stationary.{shares_of};
 ghost use Rattle.calls.specs.Calls.{loglike_call, filter_call, smooth_call};
 ghost use Rattle.fit.specs.Calls.{fit_call};
-ghost use Rattle.c_layout.specs.Layout.{params_of, Spelled, spelled, windows_spelled, Listed};
-ghost use Rattle.c_interface.specs.Interface.{spec_of, durations_listed, shares_listed, Left, left, FitLeft, fit_left};
+ghost use Rattle.c_layout.specs.Layout.{params_of, Spelled, spelled, windows_spelled, Listed, listed};
+ghost use Rattle.c_interface.specs.Interface.{spec_of, Left, left, FitLeft, fit_left};
 
 use c_layout::{given, told};
 use spec::MsarSpec;
@@ -48,8 +48,7 @@ pub fn msar_loglike(
     };
     let q = given::params_of(counts, numbers);
     let answer = calls::loglike(s, series, q, rule, work);
-    let check = answer.check;
-    told::spell(check, 0, answer.loglik, whole, real);
+    told::spell_loglik(answer, whole, real);
 }
 
 // The log-likelihood, and the probabilities of the labels given the readings so far.
@@ -77,8 +76,7 @@ pub fn msar_filter(
     };
     let q = given::params_of(counts, numbers);
     let answer = calls::filter(s, series, q, rule, work, filtered);
-    let check = answer.check;
-    told::spell(check, 0, answer.loglik, whole, real);
+    told::spell_loglik(answer, whole, real);
 }
 
 // The same, and the probabilities of the labels given all readings.
@@ -107,8 +105,7 @@ pub fn msar_smooth(
     };
     let q = given::params_of(counts, numbers);
     let answer = calls::smooth(s, series, q, rule, work, filtered, smoothed);
-    let check = answer.check;
-    told::spell(check, 0, answer.loglik, whole, real);
+    told::spell_loglik(answer, whole, real);
 }
 
 // The parameters that EM reaches, and the probabilities of the labels given all readings under them.
@@ -138,16 +135,8 @@ pub fn msar_fit(
     };
     let start = given::params_of(counts, numbers);
     let answer = fit::fit(s, series, start, max_iter, tol, work, smoothed);
-    let check = answer.check;
-    told::lay_out(check, answer.params, fitted);
-    told::spell_fit(
-        check,
-        answer.loglik,
-        answer.iterations,
-        answer.converged,
-        whole,
-        real,
-    );
+    told::lay_out(&answer, fitted);
+    told::spell_fit(&answer, whole, real);
 }
 
 // ---- calls on a spec or on parameters alone
@@ -186,13 +175,10 @@ pub fn msar_durations(
     whole: &mut [usize; 4],
     real: &mut [f64; 2],
 )
-    ensures { record { values = durations.new; whole = whole.new; real = real.new } ≡ durations_listed (durations_of (params_of counts.now numbers.now)) durations.old }
+    ensures { record { values = durations.new; whole = whole.new; real = real.new } ≡ listed (durations_of (params_of counts.now numbers.now)) durations.old }
 {
     let q = given::params_of(counts, numbers);
-    let d = q.expected_durations();
-    let check = d.check;
-    let values = d.values;
-    told::list(check, values, durations, whole, real);
+    told::list(q.expected_durations(), durations, whole, real);
 }
 
 // The stationary shares of the labels.
@@ -203,13 +189,10 @@ pub fn msar_shares(
     whole: &mut [usize; 4],
     real: &mut [f64; 2],
 )
-    ensures { record { values = shares.new; whole = whole.new; real = real.new } ≡ shares_listed (shares_of (params_of counts.now numbers.now)) shares.old }
+    ensures { record { values = shares.new; whole = whole.new; real = real.new } ≡ listed (shares_of (params_of counts.now numbers.now)) shares.old }
 {
     let q = given::params_of(counts, numbers);
-    let s = stationary::stationary_shares(q);
-    let check = s.check;
-    let values = s.values;
-    told::list(check, values, shares, whole, real);
+    told::list(stationary::stationary_shares(q), shares, whole, real);
 }
 
 // Whether the parameters are of the spec's shape. It only compares.

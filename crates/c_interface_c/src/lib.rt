@@ -15,8 +15,8 @@ ghost use Rattle.params.specs.Durations.{durations_of};
 ghost use Rattle.stationary.specs.Stationary.{shares_of};
 ghost use Rattle.calls.specs.Calls.{loglike_call, filter_call, smooth_call};
 ghost use Rattle.fit.specs.Calls.{fit_call};
-ghost use Rattle.c_layout.specs.Layout.{params_of, Spelled, spelled, windows_spelled, Listed};
-ghost use Rattle.c_interface.specs.Interface.{spec_of, durations_listed, shares_listed, Left, left, FitLeft, fit_left};
+ghost use Rattle.c_layout.specs.Layout.{params_of, Spelled, spelled, windows_spelled, Listed, listed};
+ghost use Rattle.c_interface.specs.Interface.{spec_of, Left, left, FitLeft, fit_left};
 
 // ---- calls on a series
 
@@ -192,7 +192,7 @@ pub extern "C" fn msar_durations(
     whole: &mut [usize; 4],
     real: &mut [f64; 2],
 )
-    ensures { record { values = durations.new; whole = whole.new; real = real.new } ≡ durations_listed (durations_of (params_of counts.now numbers.now)) durations.old }
+    ensures { record { values = durations.new; whole = whole.new; real = real.new } ≡ listed (durations_of (params_of counts.now numbers.now)) durations.old }
 {
     c_interface::msar_durations(counts, numbers, durations, whole, real);
 }
@@ -206,7 +206,7 @@ pub extern "C" fn msar_shares(
     whole: &mut [usize; 4],
     real: &mut [f64; 2],
 )
-    ensures { record { values = shares.new; whole = whole.new; real = real.new } ≡ shares_listed (shares_of (params_of counts.now numbers.now)) shares.old }
+    ensures { record { values = shares.new; whole = whole.new; real = real.new } ≡ listed (shares_of (params_of counts.now numbers.now)) shares.old }
 {
     c_interface::msar_shares(counts, numbers, shares, whole, real);
 }

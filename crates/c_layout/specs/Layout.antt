@@ -1,14 +1,13 @@
 -- What the arrays of the C interface stand for: parameters as six counts and 400 numbers, an answer as four whole numbers and two others.
 -- After include/msar.h, which says the same in C, and document 01, "Refusals by number".
-use Rattle.std.specs.Prelude.{ℕ, ◌+◌, Bool, true, false, List, [], ◌∷◌, get_or, replicate, Float}
+use Rattle.std.specs.Prelude.{ℕ, ◌+◌, Bool, true, false, List, [], ◌∷◌, get_or, replicate, Float, Result, Ok, Err}
 use Rattle.number.specs.Number.{zero⁺}
 use Rattle.number.specs.Table.{◌!◌, tab, fill_at}
 use Rattle.refusal.specs.Refusals.{said}
-use Rattle.refusal.specs.declared.Check.{Check}
-use Rattle.refusal.specs.declared.Check.TheVariants.{Passed, Failed}
-use Rattle.spec.specs.declared.Windows.{Windows}
-use Rattle.spec.specs.declared.Windows.TheVariants.{Count, Refused}
+use Rattle.refusal.specs.declared.Refusal.{Refusal}
+use Rattle.refusal.specs.Checks.{Check, Passed, Failed, check_of}
 use Rattle.params.specs.declared.MsarParams.{MsarParams}
+use Rattle.fit.specs.declared.Fitted.{Fitted}
 
 -- ---- what is handed in
 
@@ -45,9 +44,14 @@ spelled Passed place loglik = record { whole = 0 ∷ place ∷ 0 ∷ 0 ∷ []; r
 spelled (Failed r) place loglik = record { whole = (said r).number ∷ (said r).place ∷ 0 ∷ 0 ∷ []; real = (said r).value ∷ zero⁺ ∷ [] }
 
 -- the place is the number of windows
-abbrev pub windows_spelled : Windows → Spelled
-windows_spelled (Count m) = spelled Passed m zero⁺
-windows_spelled (Refused r) = spelled (Failed r) 0 zero⁺
+abbrev pub windows_spelled : Result ℕ Refusal → Spelled
+windows_spelled (Ok m) = spelled Passed m zero⁺
+windows_spelled (Err r) = spelled (Failed r) 0 zero⁺
+
+-- a log-likelihood alone
+abbrev pub loglik_spelled : Result Float Refusal → Spelled
+loglik_spelled (Ok loglik) = spelled Passed 0 loglik
+loglik_spelled (Err r) = spelled (Failed r) 0 zero⁺
 
 -- ---- an answer of 16 numbers
 
@@ -57,13 +61,14 @@ pub record Listed : Type 0 where
   pub real : List Float
 
 -- a refusal leaves the 16 as found
-abbrev pub values_after : Check → List Float → List Float → List Float
-values_after Passed values found = values
-values_after (Failed r) values found = found
+abbrev pub values_after : Result (List Float) Refusal → List Float → List Float
+values_after (Ok values) found = values
+values_after (Err r) found = found
 
-unfoldable pub listed : Check → List Float → List Float → Listed
-listed c values found =
-    record { values = values_after c values found; whole = (spelled c 0 zero⁺).whole; real = (spelled c 0 zero⁺).real }
+unfoldable pub listed : Result (List Float) Refusal → List Float → Listed
+listed answer found =
+    let told = spelled (check_of answer) 0 zero⁺ in
+    record { values = values_after answer found; whole = told.whole; real = told.real }
 
 -- ---- a fit: its parameters too, laid out as they are handed in
 
@@ -80,11 +85,11 @@ flag true = 1
 flag false = 0
 
 -- a fit that was answered also says its iterations, and 1 where it converged
-abbrev pub fit_spelled : Check → Float → ℕ → Bool → Spelled
-fit_spelled Passed loglik iterations converged = record { whole = 0 ∷ 0 ∷ iterations ∷ flag converged ∷ []; real = zero⁺ ∷ loglik ∷ [] }
-fit_spelled (Failed r) loglik iterations converged = spelled (Failed r) 0 zero⁺
+abbrev pub fit_spelled : Result Fitted Refusal → Spelled
+fit_spelled (Ok f) = record { whole = 0 ∷ 0 ∷ f.iterations ∷ flag f.converged ∷ []; real = zero⁺ ∷ f.loglik ∷ [] }
+fit_spelled (Err r) = spelled (Failed r) 0 zero⁺
 
 -- a refusal leaves the 400 numbers as found
-abbrev pub numbers_after : Check → MsarParams → List Float → List Float
-numbers_after Passed q found = laid_out q
-numbers_after (Failed r) q found = found
+abbrev pub numbers_after : Result Fitted Refusal → List Float → List Float
+numbers_after (Ok f) found = laid_out f.params
+numbers_after (Err r) found = found

@@ -4,39 +4,13 @@ ghost use Rattle.c_layout.specs.Layout.{part, params_of};
 
 use params::MsarParams;
 
-// Copies numbers from place `start` on, as many as there is room for.
-fn copy(copied: &mut [f64], numbers: &[f64], start: usize)
-    requires { start + length copied.old ≤ length numbers.now }
-    ensures { copied.new ≡ part start (length copied.old) numbers.now }
+// N numbers from place `start` on.
+fn part<const N: usize>(numbers: &[f64], start: usize) -> [f64; N]
+    requires { start + N ≤ length numbers.now }
+    ensures { result ≡ part start N numbers.now }
 {
-    let n = copied.len();
-    number::copy(&numbers[start..], n, copied, 0)
-}
-
-fn part_16(numbers: &[f64; 400], start: usize) -> [f64; 16]
-    requires { start + 16 ≤ 400 }
-    ensures { result ≡ part start 16 numbers.now }
-{
-    let mut copied = [0.0; 16];
-    copy(&mut copied, numbers, start);
-    copied
-}
-
-fn part_112(numbers: &[f64; 400], start: usize) -> [f64; 112]
-    requires { start + 112 ≤ 400 }
-    ensures { result ≡ part start 112 numbers.now }
-{
-    let mut copied = [0.0; 112];
-    copy(&mut copied, numbers, start);
-    copied
-}
-
-fn part_256(numbers: &[f64; 400], start: usize) -> [f64; 256]
-    requires { start + 256 ≤ 400 }
-    ensures { result ≡ part start 256 numbers.now }
-{
-    let mut copied = [0.0; 256];
-    copy(&mut copied, numbers, start);
+    let mut copied = [0.0; N];
+    number::copy(&numbers[start..], N, &mut copied, 0);
     copied
 }
 
@@ -45,10 +19,10 @@ pub fn params_of(counts: &[usize; 6], numbers: &[f64; 400]) -> MsarParams
     ensures { result ≡ params_of counts.now numbers.now }
 {
     MsarParams {
-        transition: part_256(numbers, 0),
-        means: part_16(numbers, 256),
-        ar: part_112(numbers, 272),
-        variances: part_16(numbers, 384),
+        transition: part(numbers, 0),
+        means: part(numbers, 256),
+        ar: part(numbers, 272),
+        variances: part(numbers, 384),
         means_count: counts[0],
         transition_count: counts[1],
         ar_blocks: counts[2],

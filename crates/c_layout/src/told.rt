@@ -1,12 +1,12 @@
 // An answer as C reads it: every place of both arrays is written.
 ghost use Rattle.std.specs.Prelude.{◌≡◌};
 ghost use Rattle.number.specs.Number.{zero⁺};
-ghost use Rattle.refusal.specs.declared.Check.TheVariants.{Failed};
-ghost use Rattle.c_layout.specs.Layout.{spelled, windows_spelled, listed, laid_out, flag, fit_spelled, numbers_after};
+ghost use Rattle.refusal.specs.Checks.{Failed};
+ghost use Rattle.c_layout.specs.Layout.{spelled, windows_spelled, loglik_spelled, listed, laid_out, flag, fit_spelled, numbers_after};
 
+use fit::Fitted;
 use params::MsarParams;
-use refusal::{Check, Refusal};
-use spec::Windows;
+use refusal::Refusal;
 
 // A refusal: its number, its place and its value.
 fn refuse(r: Refusal, whole: &mut [usize; 4], real: &mut [f64; 2])
@@ -17,43 +17,59 @@ fn refuse(r: Refusal, whole: &mut [usize; 4], real: &mut [f64; 2])
 }
 
 // An answer with its place and its log-likelihood, or the refusal.
-pub fn spell(check: Check, place: usize, loglik: f64, whole: &mut [usize; 4], real: &mut [f64; 2])
+pub fn spell(
+    check: Result<(), Refusal>,
+    place: usize,
+    loglik: f64,
+    whole: &mut [usize; 4],
+    real: &mut [f64; 2],
+)
     ensures { record { whole = whole.new; real = real.new } ≡ spelled check place loglik }
 {
     match check {
-        Check::Passed => {
+        Ok(()) => {
             *whole = [0, place, 0, 0];
             *real = [0.0, loglik];
         }
-        Check::Failed(r) => refuse(r, whole, real),
+        Err(r) => refuse(r, whole, real),
     }
 }
 
-pub fn spell_windows(windows: Windows, whole: &mut [usize; 4], real: &mut [f64; 2])
+// The number of windows, as the place.
+pub fn spell_windows(windows: Result<usize, Refusal>, whole: &mut [usize; 4], real: &mut [f64; 2])
     ensures { record { whole = whole.new; real = real.new } ≡ windows_spelled windows }
 {
     match windows {
-        Windows::Count(m) => spell(Check::Passed, m, 0.0, whole, real),
-        Windows::Refused(r) => refuse(r, whole, real),
+        Ok(m) => spell(Ok(()), m, 0.0, whole, real),
+        Err(r) => refuse(r, whole, real),
+    }
+}
+
+// A log-likelihood.
+pub fn spell_loglik(answer: Result<f64, Refusal>, whole: &mut [usize; 4], real: &mut [f64; 2])
+    ensures { record { whole = whole.new; real = real.new } ≡ loglik_spelled answer }
+{
+    match answer {
+        Ok(loglik) => spell(Ok(()), 0, loglik, whole, real),
+        Err(r) => refuse(r, whole, real),
     }
 }
 
 // Sixteen numbers where there is no refusal.
 pub fn list(
-    check: Check,
-    values: [f64; 16],
+    answer: Result<[f64; 16], Refusal>,
     lent: &mut [f64; 16],
     whole: &mut [usize; 4],
     real: &mut [f64; 2],
 )
-    ensures { record { values = lent.new; whole = whole.new; real = real.new } ≡ listed check values lent.old }
+    ensures { record { values = lent.new; whole = whole.new; real = real.new } ≡ listed answer lent.old }
 {
-    match check {
-        Check::Passed => {
+    match answer {
+        Ok(values) => {
             *lent = values;
-            spell(Check::Passed, 0, 0.0, whole, real);
+            spell(Ok(()), 0, 0.0, whole, real);
         }
-        Check::Failed(r) => refuse(r, whole, real),
+        Err(r) => refuse(r, whole, real),
     }
 }
 
@@ -62,34 +78,24 @@ pub fn list(
 fn flag(b: bool) -> usize
     ensures { result ≡ flag b }
 {
-    if b {
-        return 1;
-    }
-    0
+    usize::from(b)
 }
 
 // An answer with its iterations and whether it converged, or the refusal.
-pub fn spell_fit(
-    check: Check,
-    loglik: f64,
-    iterations: usize,
-    converged: bool,
-    whole: &mut [usize; 4],
-    real: &mut [f64; 2],
-)
-    ensures { record { whole = whole.new; real = real.new } ≡ fit_spelled check loglik iterations converged }
+pub fn spell_fit(answer: &Result<Fitted, Refusal>, whole: &mut [usize; 4], real: &mut [f64; 2])
+    ensures { record { whole = whole.new; real = real.new } ≡ fit_spelled answer.now }
 {
-    match check {
-        Check::Passed => {
-            *whole = [0, 0, iterations, flag(converged)];
-            *real = [0.0, loglik];
+    match answer {
+        Ok(f) => {
+            *whole = [0, 0, f.iterations, flag(f.converged)];
+            *real = [0.0, f.loglik];
         }
-        Check::Failed(r) => refuse(r, whole, real),
+        Err(r) => refuse(*r, whole, real),
     }
 }
 
-fn laid(q: MsarParams) -> [f64; 400]
-    ensures { result ≡ laid_out q }
+fn laid(q: &MsarParams) -> [f64; 400]
+    ensures { result ≡ laid_out q.now }
 {
     let mut numbers = [0.0; 400];
     number::copy(&q.transition, 256, &mut numbers, 0);
@@ -100,13 +106,10 @@ fn laid(q: MsarParams) -> [f64; 400]
 }
 
 // The parameters, where there is no refusal.
-pub fn lay_out(check: Check, q: MsarParams, numbers: &mut [f64; 400])
-    ensures { numbers.new ≡ numbers_after check q numbers.old }
+pub fn lay_out(answer: &Result<Fitted, Refusal>, numbers: &mut [f64; 400])
+    ensures { numbers.new ≡ numbers_after answer.now numbers.old }
 {
-    match check {
-        Check::Passed => {
-            *numbers = laid(q);
-        }
-        Check::Failed(_) => {}
+    if let Ok(f) = answer {
+        *numbers = laid(&f.params);
     }
 }

@@ -1,4 +1,5 @@
 -- A run from its start shares; what it leaves: work memory cleared, and the tables that the definition has. Assumes nothing.
+use Rattle.std.specs.Prelude.{Result, Ok, Err}
 use Prim.Native.Nat.{ℕ, suc, ◌+◌, ◌-◌, ◌*◌, ◌^◌, ◌<◌, ◌≤◌}
 use mathlib.Core.Path.{◌≡◌, refl, sym, ap, subst, ◌∙◌}
 use mathlib.Core.List.{List}
@@ -10,8 +11,7 @@ use lib.Ieee.{Float}
 use Rattle.number.specs.Number.{zero⁺}
 use Rattle.number.specs.Table.{fill_at}
 use Rattle.number.proofs.Table.{fill_at_over, fill_at_ext}
-use Rattle.refusal.specs.declared.Check.{Check}
-use Rattle.refusal.specs.declared.Check.TheVariants.{Passed, Failed}
+use Rattle.refusal.specs.Checks.{Check, Passed, Failed, check_of}
 use Rattle.refusal.specs.declared.Refusal.{Refusal}
 use Rattle.params.specs.declared.MsarParams.{MsarParams}
 use Rattle.params.specs.Parameters.{k, p}
@@ -19,12 +19,10 @@ use Rattle.rows.specs.Rows.{result_at, Same, windows_of}
 use Rattle.rows.specs.Memory.{filtered_from, predicted_from}
 use Rattle.rows.specs.Steps.{label_sum_at}
 use Rattle.rows.proofs.Rows.{tabulated}
-use Rattle.stationary.specs.Stationary.{start_shares}
-use Rattle.stationary.specs.declared.Shares.{Shares}
+use Rattle.stationary.specs.Stationary.{start_shares, values_of}
 use Rattle.prediction.specs.declared.Rule.{Rule}
 use Rattle.filter.specs.Filter.{predicted_row, filtered_row, row_count, answer_after, filter_answer}
 use Rattle.filter.specs.Steps.{Held}
-use Rattle.filter.specs.declared.Answer.{Answer}
 use Rattle.smoother.specs.InMemory.{SmoothedRows}
 use Rattle.calls.specs.Calls.{run_check, run_loglik, run_answer, cleared, table_of, filtered_table, smoothed_from, smoothed_table}
 
@@ -41,24 +39,31 @@ all_cleared u need found ran d e h = e ∙ fill_at_over (λ _. zero⁺) need ran
 
 -- ---- the start shares, then the filter from them
 
-pub values_are : (q : MsarParams) {s : Shares} → s ≡ start_shares q → s.values ≡ (start_shares q).values
-values_are q shares = ap (λ (x : Shares). x.values) shares
+pub values_are : (q : MsarParams) {s : Result (List Float) Refusal} → s ≡ start_shares q → values_of s ≡ values_of (start_shares q)
+values_are q shares = ap values_of shares
 
-module _ (rule : Rule) (q : MsarParams) (y : List Float) {s : Shares} (shares : s ≡ start_shares q) where
-  pub run_answer_lem : {a : Answer} → a ≡ filter_answer rule q y s → a ≡ run_answer rule q y
+module _ (rule : Rule) (q : MsarParams) (y : List Float) {s : Result (List Float) Refusal} (shares : s ≡ start_shares q) where
+  pub run_answer_lem : {a : Result Float Refusal} → a ≡ filter_answer rule q y s → a ≡ run_answer rule q y
   unfolding run_answer run_check run_loglik filter_answer
   run_answer_lem e = e ∙ ap (filter_answer rule q y) shares
 
 -- ---- whether the run was refused
 
-answer_says : (c : Check) (loglik : Float) → (answer_after c loglik).check ≡ c
+answer_says : (c : Check) (loglik : Float) → check_of (answer_after c loglik) ≡ c
 answer_says Passed loglik = refl
 answer_says (Failed r) loglik = refl
 
-module _ (rule : Rule) (q : MsarParams) (y : List Float) {a : Answer} (answer : a ≡ run_answer rule q y) {c : Check} where
-  pub run_says : a.check ≡ c → run_check rule q y ≡ c
+module _ (rule : Rule) (q : MsarParams) (y : List Float) {a : Result Float Refusal} (answer : a ≡ run_answer rule q y) {c : Check} where
+  pub run_says : check_of a ≡ c → run_check rule q y ≡ c
   unfolding run_answer
-  run_says d = sym (answer_says (run_check rule q y) (run_loglik rule q y)) ∙ sym (ap (λ (x : Answer). x.check) answer) ∙ d
+  run_says d = sym (answer_says (run_check rule q y) (run_loglik rule q y)) ∙ sym (ap check_of answer) ∙ d
+
+module _ (rule : Rule) (q : MsarParams) (y : List Float) {a : Result Float Refusal} (answer : a ≡ run_answer rule q y) where
+  pub passed_says : {loglik : Float} → a ≡ Ok loglik → run_check rule q y ≡ Passed
+  passed_says e = run_says rule q y answer (ap check_of e)
+
+  pub refused_says : {r : Refusal} → a ≡ Err r → run_check rule q y ≡ Failed r
+  refused_says e = run_says rule q y answer (ap check_of e)
 
 module _ (rule : Rule) (q : MsarParams) (y : List Float) {r : Refusal} (refused : run_check rule q y ≡ Failed r) (found : List Float) where
   pub filtered_as_found : found ≡ filtered_table rule q y found
@@ -93,7 +98,7 @@ module _ (q : MsarParams) (m power n : ℕ) (pos : 0 < k q) (windows : m ≡ win
         e
 
     -- of a run that was not refused
-    module _ (rows_are : p q + n ≡ length y) (passed : run_check rule q y ≡ Passed) (start : shares ≡ (start_shares q).values) where
+    module _ (rows_are : p q + n ≡ length y) (passed : run_check rule q y ≡ Passed) (start : shares ≡ values_of (start_shares q)) where
       counted : n ≡ row_count q y
       counted = omega arith
 

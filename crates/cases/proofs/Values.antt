@@ -1,8 +1,10 @@
 -- What the called functions answer for the examples, from the definitions that their contracts cite. Assumes nothing.
+use Rattle.std.specs.Prelude.{Result, Ok, Err}
 use mathlib.Core.Path.{◌≡◌, refl, ap, ap₂, ◌∙◌}
 use mathlib.Core.Bool.{Bool, true, false, ◌&&◌}
 use mathlib.Core.List.{List, ◌∷◌, []}
 use Prim.Native.Nat.{ℕ, ◌+◌, ◌<◌}
+use native.Mathlib.Omega.{arith}
 use borrow.Author.Tests.{eq-eqb}
 use lib.Dec.{lit≤}
 use lib.Count.{count_trailing_zeros}
@@ -12,8 +14,8 @@ use Rattle.number.specs.Number.{◌≤?◌, ◌=?◌, ◌⊘◌, float, zero⁺,
 use Rattle.number.specs.Sums.{sum_up}
 use Rattle.number.specs.Table.{◌!◌, tab, fill_at}
 use Rattle.number.proofs.Table.{fill_at_lem}
-use Rattle.refusal.specs.Checks.{◌before◌, each}
-use Rattle.refusal.specs.declared.Check.TheVariants.{Passed, Failed}
+use Rattle.refusal.specs.Checks.{Passed, Failed, ◌before◌, each}
+use Rattle.refusal.specs.declared.Refusal.{Refusal}
 use Rattle.refusal.specs.declared.Refusal.TheVariants.{Singular, SampleVariance}
 use Rattle.spec.specs.Spec.{spec_check}
 use Rattle.spec.specs.declared.MsarSpec.{MsarSpec}
@@ -23,7 +25,7 @@ use Rattle.params.specs.Checks.{is_probability, column_sum, mean_check, entry_ch
 use Rattle.params.specs.Durations.{duration, durations_of}
 use Rattle.rounding.specs.Units.{in_units}
 use Rattle.root.specs.Root.{root_of, root_pattern, whole_root, cut}
-use Rattle.stationary.specs.Stationary.{none, shares_of}
+use Rattle.stationary.specs.Stationary.{shares_of}
 use Rattle.stationary.proofs.Examples as shares
 use Rattle.window.specs.Windows.{labels}
 use Rattle.window.specs.Shape.{Shape}
@@ -48,6 +50,18 @@ is_same {x = x} {y = y} e f = e ∙ eq-eqb _ _ (ap (to_bits lib.Ieee.binary64) f
 pub with_value : {a b c : Bool} {x z : Float} (value : Float) → a ≡ c → b ≡ same x value → x ≡ z → (a && b) ≡ (c && same z value)
 with_value value e f g = rw (e, f, g)
 
+-- an answer is no refusal
+pub not_refused : {A : Type 0} {x : A} {r : Refusal} → Err r ≡ Ok x → ⊥
+not_refused e = let z : ◌≡◌ {A = ℕ} 0 1 = cc in absurd_of z
+  where
+    absurd_of : ◌≡◌ {A = ℕ} 0 1 → ⊥
+    absurd_of z = omega arith
+
+-- what an answer has
+abbrev pub values : Result (List Float) Refusal → List Float
+values (Ok x) = x
+values (Err r) = []
+
 -- ---- parameters of two regimes
 
 abbrev pub quarter : Float
@@ -65,15 +79,15 @@ passes : Passes
 unfolding parameter_check mean_check entry_check column_check ar_check variance_check column_sum sum_up is_probability usable each magnitude_of lt le eq of_bits mul div add sub neg sum round size units odd span climb of_fields count_trailing_zeros
 passes = record { p4 = refl; p5 = refl; p6 = refl }
 
-pub p4 : shares_of (two_regimes 0 quarter quarter most most) ≡ record { check = Passed; values = quarter ∷ most ∷ replicate 14 zero⁺ }
+pub p4 : shares_of (two_regimes 0 quarter quarter most most) ≡ Ok (quarter ∷ most ∷ replicate 14 zero⁺)
 unfolding shares_of
 p4 = rw passes.p4 (shares.values).p4
 
-pub p5 : shares_of (two_regimes 1 quarter quarter most most) ≡ record { check = Passed; values = quarter ∷ most ∷ replicate 14 zero⁺ }
+pub p5 : shares_of (two_regimes 1 quarter quarter most most) ≡ Ok (quarter ∷ most ∷ replicate 14 zero⁺)
 unfolding shares_of
 p5 = rw passes.p5 (shares.values).p4
 
-pub p6 : shares_of (two_regimes 0 one zero⁺ zero⁺ one) ≡ none (Singular 0 1)
+pub p6 : shares_of (two_regimes 0 one zero⁺ zero⁺ one) ≡ Err (Singular 0 1)
 unfolding shares_of
 p6 = rw passes.p6 (shares.values).p6
 
@@ -98,8 +112,8 @@ checked : fit_check (two_regimes 1 quarter quarter most most) constant ≡ Faile
 unfolding fit_check usable lt of_bits
 checked = rw (variances.values).p9_constant
 
-pub p9 : (maxIter : ℕ) (tol : Float) → (fit_call spec constant (two_regimes 1 quarter quarter most most) maxIter tol (replicate 8 zero⁺) (replicate 2 zero⁺)).answer.check
-    ≡ Failed (SampleVariance zero⁺)
+pub p9 : (maxIter : ℕ) (tol : Float) → (fit_call spec constant (two_regimes 1 quarter quarter most most) maxIter tol (replicate 8 zero⁺) (replicate 2 zero⁺)).answer
+    ≡ Err (SampleVariance zero⁺)
 unfolding fit_call
 p9 maxIter tol = rw (admitted, checked)
 
@@ -118,9 +132,10 @@ order_1 = record { low = lit≤ tt; high = lit≤ tt; few = lit≤ tt }
 abbrev start : List Float
 start = quarter ∷ most ∷ replicate 14 zero⁺
 
-pub p5_row : {q : MsarParams} {s row : List Float} → q ≡ two_regimes 1 quarter quarter most most → s ≡ start
-    → row ≡ fill_at 0 (first_at q s) 4 (replicate 256 zero⁺) → (a : ℕ) → a < 4 → row ! a ≡ first_at (two_regimes 1 quarter quarter most most) start a
-p5_row e f g a h = fill_at_lem _ 4 _ g a h ∙ ap₂ (λ (q : MsarParams) (s : List Float). first_at q s a) e f
+pub p5_row : {q : MsarParams} {s row : List Float} {windows : ℕ} → q ≡ two_regimes 1 quarter quarter most most → s ≡ start → windows ≡ 4
+    → row ≡ fill_at 0 (first_at q s) windows (replicate 256 zero⁺) → (a : ℕ) → a < 4 → row ! a ≡ first_at (two_regimes 1 quarter quarter most most) start a
+p5_row {q = q} {s = s} e f four g a h =
+    fill_at_lem _ 4 _ (g ∙ ap (λ n. fill_at 0 (first_at q s) n (replicate 256 zero⁺)) four) a h ∙ ap₂ (λ (q : MsarParams) (s : List Float). first_at q s a) e f
 
 pub record Predicted : Type 0 where
   pub at_0 : first_at (two_regimes 1 quarter quarter most most) start 0 ≡ float 0x3FB0_0000_0000_0000
@@ -138,11 +153,14 @@ previous = quarter ∷ most ∷ replicate 254 zero⁺
 abbrev steps_of : MsarParams → List Float
 steps_of q = fill_at 0 (step_at q) 2 (replicate 256 zero⁺)
 
-pub p7_row : {q : MsarParams} {steps row : List Float} → q ≡ two_regimes 0 half quarter half most → steps ≡ steps_of q
+pub p7_row : {q : MsarParams} {steps row : List Float} {windows : ℕ} → q ≡ two_regimes 0 half quarter half most → windows ≡ 2
+    → steps ≡ fill_at 0 (step_at q) windows (replicate 256 zero⁺)
     → row ≡ fill_at 0 (later_at One 0 2 1 q.transition steps previous) 2 (replicate 256 zero⁺) → (a : ℕ) → a < 2
     → row ! a ≡ stepped_at 2 1 (steps_of (two_regimes 0 half quarter half most)) previous a
 unfolding later_at mixes
-p7_row e f g a h = fill_at_lem _ 2 _ g a h ∙ ap (λ (s : List Float). stepped_at 2 1 s previous a) (f ∙ ap steps_of e)
+p7_row {q = q} e two f g a h =
+    fill_at_lem _ 2 _ g a h
+    ∙ ap (λ (s : List Float). stepped_at 2 1 s previous a) (f ∙ ap (λ n. fill_at 0 (step_at q) n (replicate 256 zero⁺)) two ∙ ap steps_of e)
 
 pub record Later : Type 0 where
   pub at_0 : stepped_at 2 1 (steps_of (two_regimes 0 half quarter half most)) previous 0 ≡ half
@@ -189,7 +207,7 @@ pub p10 : fails (parameter_check (two_regimes 0 one half zero⁺ (float 0x3FDF_5
 unfolding parameter_check mean_check entry_check column_check ar_check variance_check column_sum sum_up is_probability usable each magnitude_of lt le eq of_bits mul div add sub neg sum round size units odd span climb of_fields count_trailing_zeros
 p10 = refl
 
-pub p11 : durations_of (two_regimes 0 most zero⁺ quarter one) ≡ record { check = Passed; values = float 0x4010_0000_0000_0000 ∷ inf false ∷ replicate 14 zero⁺ }
+pub p11 : durations_of (two_regimes 0 most zero⁺ quarter one) ≡ Ok (float 0x4010_0000_0000_0000 ∷ inf false ∷ replicate 14 zero⁺)
 unfolding durations_of duration fill_at tab parameter_check mean_check entry_check column_check ar_check variance_check column_sum sum_up is_probability usable each magnitude_of lt le eq of_bits mul div add sub neg sum round size units odd span climb of_fields count_trailing_zeros
 p11 = refl
 

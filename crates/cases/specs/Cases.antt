@@ -1,12 +1,9 @@
 -- The parameters of document 01's examples with two regimes, and the comparisons that the program makes.
-use Rattle.std.specs.Prelude.{ℕ, ◌+◌, ◌/◌, ◌%◌, ◌^◌, Bool, true, false, ◌&&◌, List, ◌∷◌, replicate, Float, if◌then◌else◌}
+use Rattle.std.specs.Prelude.{ℕ, ◌+◌, ◌/◌, ◌%◌, ◌^◌, Bool, false, ◌&&◌, List, ◌∷◌, replicate, Float, if◌then◌else◌, Result, Ok, Err}
 use Rattle.number.specs.Number.{◌=?◌, pattern_of, zero⁺, half, one}
 use Rattle.refusal.specs.Refusals.{said}
-use Rattle.refusal.specs.declared.Check.{Check}
-use Rattle.refusal.specs.declared.Check.TheVariants.{Passed, Failed}
+use Rattle.refusal.specs.Checks.{Check, Passed, Failed}
 use Rattle.refusal.specs.declared.Refusal.{Refusal}
-use Rattle.spec.specs.declared.Windows.{Windows}
-use Rattle.spec.specs.declared.Windows.TheVariants.{Count, Refused}
 use Rattle.params.specs.declared.MsarParams.{MsarParams}
 
 -- the same bit pattern
@@ -26,18 +23,14 @@ abbrev pub fails_with : Check → ℕ → ℕ → Float → Bool
 fails_with Passed number place value = false
 fails_with (Failed r) number place value = tells r number place && same (said r).value value
 
-abbrev pub passes : Check → Bool
-passes Passed = true
-passes (Failed r) = false
-
 -- so many windows; a spec refused by this number, which carries k
-abbrev pub has_windows : Windows → ℕ → Bool
-has_windows (Count n) m = n =? m
-has_windows (Refused r) m = false
+abbrev pub has_windows : Result ℕ Refusal → ℕ → Bool
+has_windows (Ok n) m = n =? m
+has_windows (Err r) m = false
 
-abbrev pub is_refused : Windows → ℕ → ℕ → Bool
-is_refused (Count n) number k = false
-is_refused (Refused r) number k = tells r number k
+abbrev pub is_refused : Result ℕ Refusal → ℕ → ℕ → Bool
+is_refused (Ok n) number k = false
+is_refused (Err r) number k = tells r number k
 
 -- an array whose first two places are these
 abbrev pub pair_of : Float → Float → List Float

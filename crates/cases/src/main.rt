@@ -4,18 +4,17 @@
 #![tactic(auto)]
 
 ghost use Rattle.std.specs.Prelude.{◌≡◌, true, ◌<◌, ◌^◌};
-ghost use Rattle.number.specs.Number.{zero⁺};
 ghost use Rattle.number.specs.Sums.{sum_up};
 ghost use Rattle.number.specs.Table.{◌!◌};
 ghost use Rattle.spec.specs.Spec.{window_count};
-ghost use Rattle.refusal.specs.declared.Check.TheVariants.{Failed};
-ghost use Rattle.refusal.specs.declared.Refusal.TheVariants.{SampleVariance};
-ghost use Rattle.cases.specs.Cases.{same, tells, fails, fails_with, passes, has_windows, is_refused, pair_of, two_regimes, units_of};
+ghost use Rattle.refusal.specs.Checks.{check_of};
+ghost use Rattle.cases.specs.Cases.{same, tells, fails, fails_with, has_windows, is_refused, pair_of, two_regimes, units_of};
 
 use params::MsarParams;
 use prediction::Rule;
-use refusal::{Check, Refusal};
-use spec::{MsarSpec, Windows};
+use refusal::Refusal;
+use spec::MsarSpec;
+use window::Sizes;
 
 // ---- what a line says
 
@@ -108,7 +107,7 @@ fn p2() -> bool
 
 // ---- the spec
 
-fn windows_of(k_regimes: usize, order: usize) -> Windows
+fn windows_of(k_regimes: usize, order: usize) -> Result<usize, Refusal>
     ensures { result ≡ window_count k_regimes order }
 {
     let s = MsarSpec {
@@ -125,8 +124,8 @@ fn counts(k_regimes: usize, order: usize, m: usize) -> bool
     ensures { result ≡ has_windows (window_count k_regimes order) m }
 {
     match windows_of(k_regimes, order) {
-        Windows::Count(count) => count == m,
-        Windows::Refused(_) => false,
+        Ok(count) => count == m,
+        Err(_) => false,
     }
 }
 
@@ -135,8 +134,8 @@ fn refuses(k_regimes: usize, order: usize, number: usize) -> bool
     ensures { result ≡ is_refused (window_count k_regimes order) number k_regimes }
 {
     match windows_of(k_regimes, order) {
-        Windows::Count(_) => false,
-        Windows::Refused(r) => says(r, number, k_regimes),
+        Ok(_) => false,
+        Err(r) => says(r, number, k_regimes),
     }
 }
 
@@ -146,31 +145,22 @@ fn says(r: Refusal, number: usize, place: usize) -> bool
     (r.number() == number) & (r.place() == place)
 }
 
-fn failed(check: Check, number: usize, place: usize) -> bool
+fn failed(check: Result<(), Refusal>, number: usize, place: usize) -> bool
     ensures { result ≡ fails check number place }
 {
     match check {
-        Check::Passed => false,
-        Check::Failed(r) => says(r, number, place),
+        Ok(()) => false,
+        Err(r) => says(r, number, place),
     }
 }
 
-// The same, and with this value.
-fn failed_with(check: Check, number: usize, place: usize, value: f64) -> bool
-    ensures { result ≡ fails_with check number place value }
+// An answer that is refused so, and with this value.
+fn failed_with<A: Drop>(answer: Result<A, Refusal>, number: usize, place: usize, value: f64) -> bool
+    ensures { result ≡ fails_with (check_of answer) number place value }
 {
-    match check {
-        Check::Passed => false,
-        Check::Failed(r) => says(r, number, place) & is(r.value(), value),
-    }
-}
-
-fn passed(check: Check) -> bool
-    ensures { result ≡ passes check }
-{
-    match check {
-        Check::Passed => true,
-        Check::Failed(_) => false,
+    match answer {
+        Ok(_) => false,
+        Err(r) => says(r, number, place) & is(r.value(), value),
     }
 }
 
@@ -191,29 +181,33 @@ fn p3() -> bool
 fn p4() -> bool
     ensures { result ≡ true }
 {
-    let shares = stationary::stationary_shares(two(0, 0.25, 0.25, 0.75, 0.75));
-    let values = shares.values;
-    let check = shares.check;
-    passed(check) & is(values[0], 0.25) & is(values[1], 0.75)
+    let Ok(shares) = stationary::stationary_shares(two(0, 0.25, 0.25, 0.75, 0.75)) else {
+        return false;
+    };
+    is(shares[0], 0.25) & is(shares[1], 0.75)
 }
 
 fn p5() -> bool
     ensures { result ≡ true }
 {
     let q = two(1, 0.25, 0.25, 0.75, 0.75);
-    let shares = stationary::stationary_shares(q);
-    let values = shares.values;
+    let Ok(shares) = stationary::stationary_shares(q) else {
+        return false;
+    };
     let mut row = [0.0; 256];
-    prediction::first_row(q, &values, 4, &mut row);
+    prediction::first_row(&q, &shares, Sizes::of(2, 1, 4), &mut row);
     is(row[0], 0.0625) & is(row[1], 0.1875) & is(row[2], 0.1875) & is(row[3], 0.5625)
 }
 
 fn p6() -> bool
     ensures { result ≡ true }
 {
-    let shares = stationary::stationary_shares(two(0, 1.0, 0.0, 0.0, 1.0));
-    let check = shares.check;
-    failed_with(check, 21, 0, 1.0)
+    failed_with(
+        stationary::stationary_shares(two(0, 1.0, 0.0, 0.0, 1.0)),
+        21,
+        0,
+        1.0,
+    )
 }
 
 // By rule 1; crates/run_order_zero has the row by rule 2.
@@ -221,7 +215,7 @@ fn p7() -> bool
     ensures { result ≡ true }
 {
     let q = two(0, 0.5, 0.25, 0.5, 0.75);
-    let steps = prediction::steps(q, 2);
+    let steps = prediction::steps(&q, Sizes::of(2, 0, 2));
     let mut previous = [0.0; 256];
     previous[0] = 0.25;
     previous[1] = 0.75;
@@ -252,7 +246,7 @@ fn sum_of(row: &[f64; 256]) -> f64
     table[0]
 }
 
-// The significand of a number from 0.25 up to 0.5, in units of 2 ^ -54; 0 of any other.
+// The significand of a number from 0.25 up to 0.5, in units of 2 ^ -54; 0 of any other, as the definition units_of has it.
 fn in_units(x: f64) -> u64
     ensures { (result ≡ units_of x) × (result < 2 ^ 53) }
 {
@@ -298,9 +292,10 @@ fn sample_variances() -> bool
         & is(em_sample_variance::sample_variance(&constant), 0.0)
 }
 
-// What a fit at order 1 of the series 2, 2 is refused by; it is lent all the memory that it needs, for one row of four windows.
-fn constant_fit() -> Check
-    ensures { result ≡ Failed (SampleVariance zero⁺) }
+// A fit at order 1 of the series 2, 2, which is lent all the memory that it needs, for one row of four windows; it is refused by
+// 25, which carries the variance.
+fn fit_refused() -> bool
+    ensures { result ≡ true }
 {
     let s = MsarSpec {
         k_regimes: 2,
@@ -312,15 +307,12 @@ fn constant_fit() -> Check
     let mut work = [0.0; 8];
     let mut smoothed = [0.0; 2];
     let q = two(1, 0.25, 0.25, 0.75, 0.75);
-    let a = fit::fit(s, &constant, q, 100, 1e-8, &mut work, &mut smoothed);
-    a.check
-}
-
-// 25, which carries the variance.
-fn fit_refused() -> bool
-    ensures { result ≡ true }
-{
-    failed_with(constant_fit(), 25, 0, 0.0)
+    failed_with(
+        fit::fit(s, &constant, q, 100, 1e-8, &mut work, &mut smoothed),
+        25,
+        0,
+        0.0,
+    )
 }
 
 fn p9() -> bool
@@ -340,10 +332,10 @@ fn p10() -> bool
 fn p11() -> bool
     ensures { result ≡ true }
 {
-    let durations = two(0, 0.75, 0.0, 0.25, 1.0).expected_durations();
-    let values = durations.values;
-    let check = durations.check;
-    passed(check) & is(values[0], 4.0) & is(values[1], number::of_pattern(0x7FF0_0000_0000_0000))
+    let Ok(durations) = two(0, 0.75, 0.0, 0.25, 1.0).expected_durations() else {
+        return false;
+    };
+    is(durations[0], 4.0) & is(durations[1], number::of_pattern(0x7FF0_0000_0000_0000))
 }
 
 fn p12() -> bool
@@ -352,6 +344,7 @@ fn p12() -> bool
     is(root::root(4.0), 2.0) & (number::pattern(root::root(2.0)) == 0x3FF6_A09E_667F_3BCD)
 }
 
+// twelve calls, not a loop over a table: the table would have the same twelve lines
 fn main(rt: HostRuntime) {
     line(&rt, b"P1", p1());
     line(&rt, b"P2", p2());

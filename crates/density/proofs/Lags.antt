@@ -10,7 +10,7 @@ use lib.ListN.{length}
 use lib.Ieee.{Float}
 use Rattle.number.specs.Number.{◌⊕◌, ◌⊖◌, ◌⊗◌}
 use Rattle.number.specs.Table.{◌!◌, fill_at}
-use Rattle.number.proofs.Table.{fill_at_none, fill_at_ext, fill_at_long, fill_at_before}
+use Rattle.number.proofs.Table.{fill_at_none, fill_at_ext, fill_at_before}
 use Rattle.density.specs.Steps.{lagged_at}
 use Rattle.density.proofs.Rows.{fill_at_front}
 
@@ -30,10 +30,10 @@ pub block_apart : (step s : ℕ) → (s * step ≡ 0) ⊎ (step ≤ s * step)
 block_apart step zero = inl (zero-mul step)
 block_apart step (suc s) = inr (omega (arith, suc-mul s step))
 
-module _ (row phis means : List Float) (reading : Float) (from k step : ℕ) where
+module _ (row phis means : List Float) (reading : Float) (k step : ℕ) where
   -- the block from `at` on
   abbrev block_from : ℕ → ℕ → Float
-  block_from at i = lagged_at row phis means reading from k step (at + i)
+  block_from at i = lagged_at row phis means reading k step (at + i)
 
   -- the row with blocks s, .., k - 1 done
   abbrev pub lagged_from : ℕ → List Float
@@ -42,20 +42,17 @@ module _ (row phis means : List Float) (reading : Float) (from k step : ℕ) whe
   pub lagged_none : row ≡ lagged_from k
   lagged_none = rw (sub_self (k * step)) (fill_at_none (k * step) _ row)
 
-  pub lagged_all : {m : List Float} → m ≡ lagged_from 0 → m ≡ fill_at 0 (lagged_at row phis means reading from k step) (k * step) row
+  pub lagged_all : {m : List Float} → m ≡ lagged_from 0 → m ≡ fill_at 0 (lagged_at row phis means reading k step) (k * step) row
   lagged_all e = e ∙ rw (zero-mul step, sub-zero) (fill_at_ext 0 _ (k * step) row _ (λ i h. rw (zero-add i)))
-
-  pub lagged_long : (s : ℕ) {m : List Float} → m ≡ lagged_from s → s ≤ k → k * step ≤ length row → length m ≡ length row
-  lagged_long s e h l = fill_at_long _ _ _ _ e (omega (arith, mul-le-mul_right step h))
 
   -- place b of block s
   lagged_at_lem : (s b : ℕ) → step % k ≡ 0 → b < step
-      → row ! b ⊕ phis ! (from + b % k) ⊗ (reading ⊖ means ! s) ≡ lagged_at row phis means reading from k step (s * step + b)
+      → row ! b ⊕ phis ! (b % k) ⊗ (reading ⊖ means ! s) ≡ lagged_at row phis means reading k step (s * step + b)
   unfolding lagged_at
   lagged_at_lem s b z h = rw (digits_mod s h, digits_div s h, block_label k step s b z)
 
   pub lagged_more : (s u : ℕ) → suc s ≡ u → {m r : List Float} → m ≡ lagged_from u
-      → r ≡ fill_at (s * step) (λ b. m ! b ⊕ phis ! (from + b % k) ⊗ (reading ⊖ means ! s)) step m
+      → r ≡ fill_at (s * step) (λ b. m ! b ⊕ phis ! (b % k) ⊗ (reading ⊖ means ! s)) step m
       → s < k → step % k ≡ 0 → k * step ≤ length row → r ≡ lagged_from s
   lagged_more s u n' {m} {r} e e' h z l =
       let a : u * step ≡ s * step + step = rw (← n') (suc-mul s step) in

@@ -8,7 +8,8 @@ use native.Mathlib.Nat.{mul_comm, suc-mul, mul-le-mul, mul-le-mul_left, mul-le-m
 use native.Mathlib.Omega.{arith}
 use lib.Arith.{digits_lt, digits_div, digits_mod}
 use lib.ListN.{length, drop, replicate}
-use lib.Ieee.{Float}
+use lib.Seq.{get_or-drop}
+use lib.Ieee.{Float, nan}
 use Rattle.number.specs.Number.{zero⁺}
 use Rattle.number.specs.Table.{◌!◌, fill_at}
 use Rattle.number.proofs.Table.{fill_at_ext, fill_at_rest, fill_at_over, fill_at_lem, fill_is}
@@ -40,17 +41,17 @@ module _ (first : List Float) (k order : ℕ) (phis means y : List Float) (t : �
 
   module _ (pos : 0 < k) where
     lag_more : (l c : ℕ) (d : List Float) {row : List Float} → row ≡ fill_at 0 (lagged_row l) (k ^ suc l) d → l < order → c < k * k ^ suc l
-        → lagged_at row phis means (y ! (t - suc l)) (l * k) k (k ^ suc l) c ≡ lagged_row (suc l) c
+        → lagged_at row (drop (l * k) phis) means (y ! (t - suc l)) k (k ^ suc l) c ≡ lagged_row (suc l) c
     unfolding lagged_at lags_to labels
     lag_more l c d {row} e h i =
         let some = one-le-pow (suc l) k pos in
         let from : row ! (c % k ^ suc l) ≡ lagged_row l c = fill_at_lem _ _ d e (c % k ^ suc l) (mod-lt c some) ∙ lags_ext (labels k (suc order) (c % k ^ suc l)) (labels k (suc order) c) l (label_cut k pos (suc order) l c) in
         let oldest : c / k ^ suc l < k = (div-lt_iff_lt-mul some).1 i in
         let older : label (labels k (suc order) c) (suc l) ≡ c / k ^ suc l = label_labels k (suc order) c (suc l) (omega arith) ∙ mod-eq_of_lt oldest in
-        rw (from, ← older)
+        rw (get_or-drop (l * k) phis (c % k) nan, from, ← older)
 
     pub lags_more : (l step : ℕ) {row r : List Float} → row ≡ fill_at 0 (lagged_row l) step first → step ≡ k ^ suc l → l < order
-        → r ≡ fill_at 0 (lagged_at row phis means (y ! (t - l - 1)) (l * k) k step) (k * step) row
+        → r ≡ fill_at 0 (lagged_at row (drop (l * k) phis) means (y ! (t - l - 1)) k step) (k * step) row
         → r ≡ fill_at 0 (lagged_row (l + 1)) (step * k) first
     lags_more l step {row} {r} e z h e' =
         let w : 1 * step ≤ k * step = mul-le-mul_right step pos in

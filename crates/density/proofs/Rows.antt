@@ -1,6 +1,6 @@
 -- Laws of rows filled in part: by the numbers that stand there, in front of a part that is filled, and a first part again and again.
 -- Assumes nothing.
-use Prim.Native.Nat.{ℕ, ◌+◌, ◌-◌, ◌%◌, ◌<◌, ◌≤◌}
+use Prim.Native.Nat.{ℕ, ◌+◌, ◌-◌, ◌*◌, ◌%◌, ◌<◌, ◌≤◌}
 use mathlib.Core.Path.{◌≡◌, refl, sym, ap, ◌∙◌}
 use mathlib.Core.Logic.{◌⊎◌, ⊎_elim}
 use mathlib.Core.List.{List, ◌++◌, append_assoc}
@@ -8,6 +8,7 @@ use native.Mathlib.Nat.{zero-add, mod-lt, mod-eq_of_lt, mod-eq-sub-mod}
 use native.Mathlib.Omega.{arith}
 use lib.ListN.{length, take, drop}
 use lib.Seq.{length-take-le, take-append-le, take-take, drop_at}
+use Rattle.std.proofs.lemmas.List.{take_rest}
 use lib.Ieee.{Float}
 use Rattle.number.specs.Number.{◌⊕◌, ◌⊗◌}
 use Rattle.number.specs.Table.{◌!◌, tab, fill_at}
@@ -27,6 +28,10 @@ fill_at_front s f g n c l e k h =
     let a : s + n + c ≡ s + (n + c) = omega arith in
     let d : take s (take (s + n) l ++ (tab g c ++ drop (s + n + c) l)) ≡ take s l = take-append-le s _ _ (rw q b) ∙ take-take s (s + n) l b in
     rw (e, append_assoc (take (s + n) l) (tab g c) _, d, drop_at _ _ _ q, a, ← tab_join f g n c h) (simp append_assoc)
+
+-- an array from lag l on
+pub rest_of : {n : ℕ} (l k : ℕ) (list : List Float) → length list ≡ n → take (n - l * k) (drop (l * k) list) ≡ drop (l * k) list
+rest_of l k list e = rw (← e) (take_rest list (l * k))
 
 -- ---- the first k places again and again
 
@@ -59,5 +64,5 @@ block_kept s f n c l e o h k =
     o
 
 -- what is written there, by what was read and the label now
-pub block_value : (phis : List Float) (from : ℕ) (d : Float) {x y : Float} {s r : ℕ} → x ≡ y → s ≡ r → x ⊕ phis ! (from + s) ⊗ d ≡ y ⊕ phis ! (from + r) ⊗ d
-block_value phis from d e e' = rw (e, e')
+pub block_value : (phis : List Float) (d : Float) {x y : Float} {s r : ℕ} → x ≡ y → s ≡ r → x ⊕ phis ! s ⊗ d ≡ y ⊕ phis ! r ⊗ d
+block_value phis d e e' = rw (e, e')

@@ -50,9 +50,10 @@ phis_from ar blocks k order = fill_at 0 (λ e. ar ! (block_of blocks (e % k) * o
 abbrev pub phis_of : MsarParams → List Float
 phis_of q = phis_from q.ar q.ar_blocks (k q) (p q)
 
--- one lag more, for the windows of one label more: window c goes on from c % step, and its new oldest label is c / step
-unfoldable pub lagged_at : List Float → List Float → List Float → Float → ℕ → ℕ → ℕ → ℕ → Float
-lagged_at row phis means reading from k step c = row ! (c % step) ⊕ phis ! (from + c % k) ⊗ (reading ⊖ means ! (c / step))
+-- one lag more, for the windows of one label more: window c goes on from c % step, and its new oldest label is c / step;
+-- phis begins with the coefficients of that lag
+unfoldable pub lagged_at : List Float → List Float → List Float → Float → ℕ → ℕ → ℕ → Float
+lagged_at row phis means reading k step c = row ! (c % step) ⊕ phis ! (c % k) ⊗ (reading ⊖ means ! (c / step))
 
 -- parameters whose parts are lent one by one
 pub record Parts (q : MsarParams) (count order : ℕ) (means phis : List Float) : Type 0 where

@@ -1,6 +1,7 @@
 -- Blocks in arrays: that they fit, the table of a window row by row, and the answers of the blocks one after another. Assumes nothing.
-use Rattle.std.specs.Prelude.{if◌then◌else◌}
-use Prim.Native.Nat.{ℕ, suc, ◌+◌, ◌*◌, ◌/◌, ◌%◌, ◌^◌, ◌<◌, ◌≤◌}
+use Rattle.std.specs.Prelude.{Result, Ok, Err, if◌then◌else◌}
+use Rattle.std.specs.Result.{result_unwrap_or}
+use Prim.Native.Nat.{ℕ, zero, suc, ◌+◌, ◌*◌, ◌/◌, ◌%◌, ◌^◌, ◌<◌, ◌≤◌}
 use mathlib.Core.Path.{◌≡◌, ◌∙◌}
 use mathlib.Core.Bool.{true}
 use mathlib.Core.List.{List}
@@ -14,14 +15,12 @@ use Rattle.number.specs.Number.{◌⊕◌, ◌⊗◌, ◌⊘◌, zero⁺}
 use Rattle.number.specs.Table.{◌!◌, fill_at}
 use Rattle.number.proofs.Table.{fill_at_none, fill_at_ext, fill_at_past, fill_at_join, fill_at_long, fill_at_more, fill_at_lem, fill_join, row_before}
 use Rattle.window.proofs.Windows.{label_labels}
-use Rattle.refusal.specs.Checks.{each}
+use Rattle.refusal.specs.Checks.{Passed, Failed, check_of, each}
 use Rattle.refusal.specs.declared.Refusal.{Refusal}
-use Rattle.refusal.specs.declared.Check.TheVariants.{Passed, Failed}
 use Rattle.refusal.proofs.Each.{each_found, each_ext}
-use Rattle.params.specs.Parameters.{block_of}
-use Rattle.em_ridge.specs.declared.Update.{Update}
+use Rattle.em_ridge.specs.Ridge.{solve_or_keep}
 use Rattle.em_coefficients.specs.Coefficients.{blocks_of}
-use Rattle.em_coefficients.specs.Steps.{distance_of, table_term, side_term, added_to}
+use Rattle.em_coefficients.specs.Steps.{distance_of, table_term, side_term, added_to, block_from}
 
 -- ---- blocks of at most 7 coefficients, at most 16 of them
 
@@ -90,57 +89,70 @@ added_ext : (b n : ℕ) (f g : ℕ → Float) (l : List Float) → ((c : ℕ) �
 unfolding added_to
 added_ext b n f g l h = fill_at_ext (b * n) _ n l _ (λ c i. rw (h c i))
 
-module _ (order : ℕ) (pos : 0 < order) (g v : Float) (s blocks : ℕ) (d : ℕ → Float) (x₀ : List Float) (l : List Float) {b : ℕ} {x l' : List Float}
-    (t : ne g zero⁺ ≡ true) (eb : b ≡ block_of blocks s) (ex : x ≡ fill_at 0 d (order + 1) x₀) where
+positive : (order : ℕ) {c : ℕ} → c < order * order → 0 < order
+positive zero h = omega (arith, h)
+positive (suc n) h = omega arith
+
+module _ (b order : ℕ) (g v : Float) (d : ℕ → Float) (x₀ : List Float) (l : List Float) {x l' : List Float} (t : ne g zero⁺ ≡ true)
+    (ex : x ≡ fill_at 0 d (order + 1) x₀) where
   pub window_table : l' ≡ added_to b (order * order) (table_term order (g ⊘ v) (λ i. x ! i)) l
-      → l' ≡ (if ne g zero⁺ then added_to (block_of blocks s) (order * order) (table_term order (g ⊘ v) d) l else l)
+      → l' ≡ (if ne g zero⁺ then added_to b (order * order) (table_term order (g ⊘ v) d) l else l)
   unfolding table_term
   window_table e =
       rw t
-      (rw eb at e
+      (e
       ∙ added_ext _ (order * order) _ _ l
-      (λ c h. rw (fill_at_lem d (order + 1) x₀ ex (suc (c / order)) (let u : c / order < order = (div-lt_iff_lt-mul pos).1 h in omega arith), fill_at_lem d (order + 1) x₀ ex (suc (c % order)) (omega (arith, mod-lt c pos)))))
+      (λ c h. rw (fill_at_lem d (order + 1) x₀ ex (suc (c / order)) (let u : c / order < order = (div-lt_iff_lt-mul (positive order h)).1 h in omega arith), fill_at_lem d (order + 1) x₀ ex (suc (c % order)) (omega (arith, mod-lt c (positive order h))))))
 
-  pub window_side : l' ≡ added_to b order (side_term (g ⊘ v) (λ i. x ! i)) l
-      → l' ≡ (if ne g zero⁺ then added_to (block_of blocks s) order (side_term (g ⊘ v) d) l else l)
+  pub window_side : l' ≡ added_to b order (side_term (g ⊘ v) (λ i. x ! i)) l → l' ≡ (if ne g zero⁺ then added_to b order (side_term (g ⊘ v) d) l else l)
   unfolding side_term
   window_side e =
       rw t
-      (rw eb at e
+      (e
       ∙ added_ext _ order _ _ l
       (λ c h. rw (fill_at_lem d (order + 1) x₀ ex (suc c) (omega arith), fill_at_lem d (order + 1) x₀ ex 0 (omega arith))))
 
 -- ---- the answers of the blocks
 
-module _ (p : ℕ) (block : ℕ → Update) (ar : List Float) where
+pub block_is : (p : ℕ) (tables sides ar : List Float) (b : ℕ) {table side incumbent : List Float} {r : Result (List Float) Refusal}
+    → table ≡ fill_at 0 (λ e. tables ! (b * (p * p) + e)) (p * p) (replicate 256 zero⁺)
+    → side ≡ fill_at 0 (λ l. sides ! (b * p + l)) p (replicate 16 zero⁺)
+    → incumbent ≡ fill_at 0 (λ l. ar ! (b * p + l)) p (replicate 16 zero⁺)
+    → r ≡ solve_or_keep 2 p table side incumbent
+    → r ≡ block_from p tables sides ar b
+unfolding block_from
+block_is p tables sides ar b t s i e = rw (← t, ← s, ← i) e
+
+module _ (p : ℕ) (block : ℕ → Result (List Float) Refusal) (ar : List Float) where
   abbrev pub answers_to : ℕ → List Float
-  answers_to b = fill_at 0 (λ e. (block (e / p)).values ! (e % p)) (b * p) ar
+  answers_to b = fill_at 0 (λ e. result_unwrap_or (block (e / p)) (replicate 16 zero⁺) ! (e % p)) (b * p) ar
 
   pub answers_none : ar ≡ answers_to 0
   answers_none = rw (zero-mul p) (fill_at_none 0 _ ar)
 
-  pub answers_more : (b : ℕ) {u : Update} {m m' : List Float} → u ≡ block b → m ≡ answers_to b → b * p + p ≤ length ar
-      → m' ≡ fill_at (b * p) (λ l. u.values ! l) p m → m' ≡ answers_to (b + 1)
-  answers_more b {u} eu e h e' =
+  pub answers_more : (b : ℕ) {values m m' : List Float} → Ok values ≡ block b → m ≡ answers_to b → b * p + p ≤ length ar
+      → m' ≡ fill_at (b * p) (λ l. values ! l) p m → m' ≡ answers_to (b + 1)
+  answers_more b solved e h e' =
       e'
-      ∙ fill_join _ _ (b * p) p ar e (omega arith) (λ l hl. rw (digits_div b hl, digits_mod b hl, eu))
+      ∙ fill_join _ _ (b * p) p ar e (omega arith) (λ l hl. rw (digits_div b hl, digits_mod b hl, ← solved))
       ∙ rw (add-one, suc-mul)
 
-  pub answers_refused : (n b : ℕ) → each b (λ i. (block i).check) ≡ Passed → b < n → {u : Update} {r : Refusal} → u ≡ block b → u.check ≡ Failed r
-      → record { check = Failed r; ar = replicate 112 zero⁺ } ≡ blocks_of p n block ar
+  pub answers_refused : (n b : ℕ) → each b (λ i. check_of (block i)) ≡ Passed → b < n → {r : Refusal} → Err r ≡ block b → Err r ≡ blocks_of p n block ar
   unfolding blocks_of
-  answers_refused n b passed h eu er = rw (each_found (λ i. (block i).check) b passed n h (rw eu at er))
+  answers_refused n b passed h {r} refused =
+      let check : check_of (block b) ≡ Failed r = rw (← refused) in
+      rw (each_found (λ i. check_of (block i)) b passed n h check)
 
-  pub answers_all : (n : ℕ) {m : List Float} → each n (λ i. (block i).check) ≡ Passed → m ≡ answers_to n → record { check = Passed; ar = m } ≡ blocks_of p n block ar
+  pub answers_all : (n : ℕ) {m : List Float} → each n (λ i. check_of (block i)) ≡ Passed → m ≡ answers_to n → Ok m ≡ blocks_of p n block ar
   unfolding blocks_of
   answers_all n passed e = rw (passed, e)
 
-  pub answers_ext : (n : ℕ) (block' : ℕ → Update) → 0 < p → ((b : ℕ) → b < n → block b ≡ block' b) → blocks_of p n block ar ≡ blocks_of p n block' ar
+  pub answers_ext : (n : ℕ) (block' : ℕ → Result (List Float) Refusal) → 0 < p → ((b : ℕ) → b < n → block b ≡ block' b) → blocks_of p n block ar ≡ blocks_of p n block' ar
   unfolding blocks_of
   answers_ext n block' pos same =
       rw (
-        each_ext (λ b. (block b).check) (λ b. (block' b).check) n (λ b h. rw (same b h)),
-        fill_at_ext 0 (λ e. (block (e / p)).values ! (e % p)) (n * p) ar (λ e. (block' (e / p)).values ! (e % p)) (λ e h. rw (same (e / p) ((div-lt_iff_lt-mul pos).1 h))),
+        each_ext (λ b. check_of (block b)) (λ b. check_of (block' b)) n (λ b h. rw (same b h)),
+        fill_at_ext 0 (λ e. result_unwrap_or (block (e / p)) (replicate 16 zero⁺) ! (e % p)) (n * p) ar (λ e. result_unwrap_or (block' (e / p)) (replicate 16 zero⁺) ! (e % p)) (λ e h. rw (same (e / p) ((div-lt_iff_lt-mul pos).1 h))),
       )
 
 -- ---- the distances by lag and label, and the labels of a window in turn: `rest` has those from lag l on

@@ -1,6 +1,6 @@
 -- The sums that the code makes place by place are those of the definition, and so are the blocks that they give; and what the rows hold past their first m
 -- places does not count. Assumes nothing.
-use Rattle.std.specs.Prelude.{if◌then◌else◌}
+use Rattle.std.specs.Prelude.{Result, if◌then◌else◌}
 use Prim.Native.Nat.{ℕ, suc, ◌+◌, ◌*◌, ◌/◌, ◌%◌, ◌^◌, ◌<◌, ◌≤◌}
 use mathlib.Core.Path.{◌≡◌, refl, ◌∙◌}
 use mathlib.Core.List.{List}
@@ -14,7 +14,7 @@ use Rattle.number.specs.Table.{◌!◌, fill_at}
 use Rattle.number.proofs.Sums.{where_ext}
 use Rattle.number.proofs.Table.{fill_at_ext, fill_at_lem, fill_long}
 use Rattle.window.specs.Windows.{label, labels}
-use Rattle.window.specs.declared.Time.{Time}
+use Rattle.window.specs.Time.{time_of}
 use Rattle.window.proofs.Windows.{label_below}
 use Rattle.params.specs.declared.MsarParams.{MsarParams}
 use Rattle.params.specs.Parameters.{k, p, block_of}
@@ -25,10 +25,10 @@ use Rattle.rows.proofs.Cells.{cells_none}
 use Rattle.rows.proofs.ByPlace.{counts_in, precision_in_lem}
 use Rattle.rows.proofs.SmoothedTable.{seen_same, precision_same}
 use Rattle.density.specs.Steps.{variances_from}
-use Rattle.density.proofs.Tables.{block_below, variances_at}
-use Rattle.em_coefficients.specs.declared.Blocks.{Blocks}
+use Rattle.density.proofs.Tables.{variances_at}
+use Rattle.refusal.specs.declared.Refusal.{Refusal}
 use Rattle.em_coefficients.specs.Coefficients.{blocks_of, in_block, product_at, ar_cell, ar_side, new_block, new_ar}
-use Rattle.em_coefficients.specs.Steps.{distance_by, distance_of, distance_in, table_term, side_term, added_to, row_table, row_side, Summed, block_from, ar_by}
+use Rattle.em_coefficients.specs.Steps.{distance_by, distance_of, distance_in, table_term, side_term, added_to, row_table, row_side, Summed, block_from}
 use Rattle.em_coefficients.proofs.Walk.{block_more}
 use Rattle.em_coefficients.proofs.Parts.{side_fits, table_fits, answers_ext}
 
@@ -45,50 +45,38 @@ module _ (k p blocks : ℕ) (work : List Float) (w : ℕ → Float) (x : ℕ →
     pub sides_long : length sides ≡ 112
     sides_long = fill_long _ 112 (replicate 112 zero⁺) S.sided (omega arith)
 
-    -- place e, of label s now, weight g and distances d
-    pub summed_more : {g v : Float} {d : ℕ → Float} {tables' sides' : List Float} → 0 < p → p ≤ 7 → (s : ℕ) → s < 16 → e % k ≡ s → g ≡ work ! e → v ≡ w e
-        → ((l : ℕ) → l ≤ p → d l ≡ x e l)
-        → tables' ≡ (if ne g zero⁺ then added_to (block_of blocks s) (p * p) (table_term p v d) tables else tables)
-        → sides' ≡ (if ne g zero⁺ then added_to (block_of blocks s) p (side_term v d) sides else sides)
+    -- place e, of label s now and block b, weight g and distances d
+    pub summed_more : {g v : Float} {d : ℕ → Float} {tables' sides' : List Float} → 0 < p → p ≤ 7 → (b s : ℕ) → b < 16 → b ≡ block_of blocks s → e % k ≡ s → g ≡ work ! e
+        → v ≡ w e → ((l : ℕ) → l ≤ p → d l ≡ x e l)
+        → tables' ≡ (if ne g zero⁺ then added_to b (p * p) (table_term p v d) tables else tables)
+        → sides' ≡ (if ne g zero⁺ then added_to b p (side_term v d) sides else sides)
         → Summed k p blocks work w x (e + 1) tables' sides'
     unfolding counts_for row_table row_side table_term side_term
-    summed_more {g} {v} {d} pos few s low now eg ev ed et es =
-        let b = block_below blocks s 16 low in
-        record {
-          tabled =
-              block_more _ _ 784 e _ S.tabled (omega arith) (block_of blocks s) (p * p) (mul-pos pos pos) (table_fits b few) (ne g zero⁺) _
-              (λ c. rw (eg, now))
-              (λ c h. rw (digits_mod (block_of blocks s) h, ev, ed (suc (c / p)) ((div-lt_iff_lt-mul pos).1 h), ed (suc (c % p)) (mod-lt c pos)))
-              et;
-          sided =
-              block_more _ _ 112 e _ S.sided (omega arith) (block_of blocks s) p pos (side_fits b few) (ne g zero⁺) _
-              (λ c. rw (eg, now))
-              (λ c h. rw (digits_mod (block_of blocks s) h, ev, ed (suc c) h, ed 0 (omega arith)))
-              es;
-        }
+    summed_more {g} {v} {d} pos few b s low eb now eg ev ed et es = record {
+      tabled =
+          block_more _ _ 784 e _ S.tabled (omega arith) b (p * p) (mul-pos pos pos) (table_fits low few) (ne g zero⁺) _
+          (λ c. rw (eg, eb, now))
+          (λ c h. rw (digits_mod b h, ev, ed (suc (c / p)) ((div-lt_iff_lt-mul pos).1 h), ed (suc (c % p)) (mod-lt c pos)))
+          et;
+      sided =
+          block_more _ _ 112 e _ S.sided (omega arith) b p pos (side_fits low few) (ne g zero⁺) _
+          (λ c. rw (eg, eb, now))
+          (λ c h. rw (digits_mod b h, ev, ed (suc c) h, ed 0 (omega arith)))
+          es;
+    }
 
 -- ---- the distances by place
 
-pub distance_there : (k order m i a l : ℕ) (y means d : List Float) (t : Time) {distances : List Float} → 0 < k → t.0 ≡ order + i → a < m → l ≤ order
-    → distances ≡ fill_at 0 (distance_by k y t means) (suc order * k) d
+pub distance_there : (k order m i a l : ℕ) (y means d : List Float) {distances : List Float} → 0 < k → a < m → l ≤ order
+    → distances ≡ fill_at 0 (distance_by k y (time_of order (record { 0 = i })) means) (suc order * k) d
     → distance_of k order distances a l ≡ distance_in k order m y means (i * m + a) l
 unfolding distance_of distance_in distance_by
-distance_there k order m i a l y means d t pos z h hl e =
+distance_there k order m i a l y means d pos h hl e =
     let lag : l < suc order = omega arith in
     let s = label_below k pos (suc order) a l lag in
-    fill_at_lem _ (suc order * k) d e (l * k + label (labels k (suc order) a) l) (digits_lt lag s) ∙ rw (digits_div l s, digits_mod l s, z, digits_div i h, digits_mod i h)
+    fill_at_lem _ (suc order * k) d e (l * k + label (labels k (suc order) a) l) (digits_lt lag s) ∙ rw (digits_div l s, digits_mod l s, digits_div i h, digits_mod i h)
 
 -- ---- the blocks
-
-pub blocks_by : (k order blocks count : ℕ) (means ar variances y : List Float) (n : ℕ) (work : List Float) (m : ℕ) {own tables sides : List Float} {r : Blocks}
-    → m ≡ k ^ suc order → own ≡ variances_from variances count k
-    → Summed k order blocks work (precision_in k own work) (distance_in k order m y means) (n * m) tables sides
-    → r ≡ blocks_of order blocks (block_from order tables sides ar) ar
-    → r ≡ ar_by k order blocks count means ar variances y n work
-unfolding ar_by
-blocks_by k order blocks count means ar variances y n work m w o S e =
-    let all = rw (w, o) at S in
-    e ∙ rw (all.tabled, all.sided)
 
 module _ (q : MsarParams) (positive : 0 < k q) (pos : 0 < p q) (small : p q ≤ 7) (y work : List Float) (n : ℕ) where
   abbrev own : List Float
@@ -124,9 +112,14 @@ module _ (q : MsarParams) (positive : 0 < k q) (pos : 0 < p q) (small : p q ≤ 
       fill_at_lem _ 112 (replicate 112 zero⁺) refl (b * p q + l) (omega (arith, side_fits hb small))
       ∙ where_ext _ _ _ _ (places q n) (λ e h. rw (digits_div b hl) (counted b e h)) (λ e _. rw (digits_mod b hl) (product_is (suc l) 0 e))
 
-  pub ar_are : q.ar_blocks ≤ 16
-      → ar_by (k q) (p q) q.ar_blocks q.variances_count q.means q.ar q.variances y n work ≡ new_ar q y n (rows_in q work)
-  unfolding ar_by new_ar block_from new_block
+  abbrev tables : List Float
+  tables = fill_at 0 (cell_at (λ c. counts_for (k q) q.ar_blocks work (c / (p q * p q))) (row_table (p q) w x) (places q n)) 784 (replicate 784 zero⁺)
+
+  abbrev sides : List Float
+  sides = fill_at 0 (cell_at (λ c. counts_for (k q) q.ar_blocks work (c / p q)) (row_side (p q) w x) (places q n)) 112 (replicate 112 zero⁺)
+
+  ar_are : q.ar_blocks ≤ 16 → blocks_of (p q) q.ar_blocks (block_from (p q) tables sides q.ar) q.ar ≡ new_ar q y n (rows_in q work)
+  unfolding new_ar block_from new_block
   ar_are h =
       answers_ext (p q) _ q.ar q.ar_blocks (new_block q y n (rows_in q work)) pos
       (λ b hb.
@@ -135,6 +128,15 @@ module _ (q : MsarParams) (positive : 0 < k q) (pos : 0 < p q) (small : p q ≤ 
         fill_at_ext 0 _ (p q * p q) (replicate 256 zero⁺) (λ e. ar_cell q y n (rows_in q work) b (e / p q) (e % p q)) (λ c hc. cell_is b c b' hc),
         fill_at_ext 0 _ (p q) (replicate 16 zero⁺) (ar_side q y n (rows_in q work) b) (λ l hl. side_is b l b' hl),
       ))
+
+  pub solved : (k' order m : ℕ) {variances tables' sides' : List Float} {r : Result (List Float) Refusal} → k' ≡ k q → order ≡ p q → m ≡ k' ^ suc order → q.ar_blocks ≤ 16
+      → variances ≡ variances_from q.variances q.variances_count k'
+      → Summed k' order q.ar_blocks work (precision_in k' variances work) (distance_in k' order m y q.means) (n * m) tables' sides'
+      → r ≡ blocks_of (p q) q.ar_blocks (block_from (p q) tables' sides' q.ar) q.ar
+      → r ≡ new_ar q y n (rows_in q work)
+  solved k' order m l o w h v S e =
+      let all = rw (w, v, l, o) at S in
+      rw (all.tabled, all.sided) at e ∙ ar_are h
 
 -- ---- rows that hold the same in their first m places
 

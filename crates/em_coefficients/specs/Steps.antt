@@ -1,16 +1,16 @@
 -- What the steps of the code give, of parts that are lent one by one: distances by lag and label, sums by place of work memory, and the blocks that they
 -- give. The proofs show that they are those of the definition.
-use Rattle.std.specs.Prelude.{ℕ, suc, ◌+◌, ◌-◌, ◌*◌, ◌/◌, ◌%◌, ◌^◌, ◌≡◌, List, replicate, Float}
+use Rattle.std.specs.Prelude.{ℕ, suc, ◌+◌, ◌-◌, ◌*◌, ◌/◌, ◌%◌, ◌≡◌, List, replicate, Float, Result}
 use Rattle.number.specs.Number.{◌⊕◌, ◌⊖◌, ◌⊗◌, zero⁺}
 use Rattle.number.specs.Table.{◌!◌, fill_at}
 use Rattle.window.specs.Windows.{label, labels}
 use Rattle.window.specs.declared.Time.{Time}
+use Rattle.refusal.specs.declared.Refusal.{Refusal}
+use Rattle.params.specs.declared.MsarParams.{MsarParams}
 use Rattle.rows.specs.Steps.{cell_at, counts_for, precision_in}
-use Rattle.density.specs.Steps.{variances_from}
+use Rattle.rows.specs.declared.smoothed.Smoothed.{Smoothed}
 use Rattle.em_ridge.specs.Ridge.{solve_or_keep}
-use Rattle.em_ridge.specs.declared.Update.{Update}
-use Rattle.em_coefficients.specs.declared.Blocks.{Blocks}
-use Rattle.em_coefficients.specs.Coefficients.{blocks_of}
+use Rattle.em_coefficients.specs.declared.Equations.{Equations}
 
 -- y[t-l] - μ[s] at time t by lag and label, at place l·k + s
 unfoldable pub distance_by : ℕ → List Float → Time → List Float → ℕ → Float
@@ -47,20 +47,16 @@ pub record Summed (k p blocks : ℕ) (work : List Float) (w : ℕ → Float) (x 
   pub tabled : tables ≡ fill_at 0 (cell_at (λ c. counts_for k blocks work (c / (p * p))) (row_table p w x) e) 784 (replicate 784 zero⁺)
   pub sided : sides ≡ fill_at 0 (cell_at (λ c. counts_for k blocks work (c / p)) (row_side p w x) e) 112 (replicate 112 zero⁺)
 
+-- the same over the windows of the rows before row i, of which the code reads these; the variances are by label
+abbrev pub RowsSummed : MsarParams → List Float → Smoothed → ℕ → Equations → Type 0
+RowsSummed q variances s i equations =
+    Summed s.sizes.k s.sizes.order q.ar_blocks s.work.now (precision_in s.sizes.k variances s.work.now) (distance_in s.sizes.k s.sizes.order s.sizes.windows s.y.now q.means) (i * s.sizes.windows)
+    equations.tables equations.sides
+
 -- block b of the tables and sides, solved
-unfoldable pub block_from : ℕ → List Float → List Float → List Float → ℕ → Update
+unfoldable pub block_from : ℕ → List Float → List Float → List Float → ℕ → Result (List Float) Refusal
 block_from p tables sides ar b =
     solve_or_keep 2 p
     (fill_at 0 (λ e. tables ! (b * (p * p) + e)) (p * p) (replicate 256 zero⁺))
     (fill_at 0 (λ l. sides ! (b * p + l)) p (replicate 16 zero⁺))
     (fill_at 0 (λ l. ar ! (b * p + l)) p (replicate 16 zero⁺))
-
--- all blocks, by n rows in work memory
-unfoldable pub ar_by : ℕ → ℕ → ℕ → ℕ → List Float → List Float → List Float → List Float → ℕ → List Float → Blocks
-ar_by k order blocks count means ar variances y n work =
-    let m = k ^ suc order in
-    let w = precision_in k (variances_from variances count k) work in
-    let x = distance_in k order m y means in
-    let tables = fill_at 0 (cell_at (λ c. counts_for k blocks work (c / (order * order))) (row_table order w x) (n * m)) 784 (replicate 784 zero⁺) in
-    let sides = fill_at 0 (cell_at (λ c. counts_for k blocks work (c / order)) (row_side order w x) (n * m)) 112 (replicate 112 zero⁺) in
-    blocks_of order blocks (block_from order tables sides ar) ar

@@ -8,11 +8,10 @@ use native.Mathlib.Nat.{mul-le-mul, div-add-mod'}
 use native.Mathlib.Decide.{ℕ_discrete}
 use borrow.Author.Tests.{eq-eqb, ne_eqb}
 use lib.Arith.{digits_lt, digits_div, digits_mod}
-use lib.ListN.{length, set, replicate}
+use lib.ListN.{set, replicate}
 use lib.Ieee.{Float}
 use Rattle.number.specs.Number.{◌⊕◌, zero⁺}
 use Rattle.number.specs.Table.{◌!◌}
-use Rattle.number.proofs.Table.{fill_long}
 use Rattle.rows.proofs.Cells.{cells_none, cells_one}
 use Rattle.em_counts.specs.Steps.{is_step, is_before, Counted}
 
@@ -51,12 +50,6 @@ module _ (k : ℕ) (work : List Float) (few : k ≤ 16) where
   counted_none = record { cells = cells_none _ _ (k * k) 256 (square_within k few); sums = cells_none _ _ k 16 few }
 
   module _ {e : ℕ} {counts columns : List Float} (C : Counted k work e counts columns) where
-    pub counts_long : length counts ≡ 256
-    counts_long = fill_long _ (k * k) (replicate 256 zero⁺) C.cells (square_within k few)
-
-    pub columns_long : length columns ≡ 16
-    columns_long = fill_long _ k (replicate 16 zero⁺) C.sums few
-
     counted_more : (s j : ℕ) → s < k → j < k → e % k ≡ s → e / k % k ≡ j
         → Counted k work (e + 1) (set counts (s * k + j) (counts ! (s * k + j) ⊕ work ! e)) (set columns j (columns ! j ⊕ work ! e))
     counted_more s j h h' now before =

@@ -3,19 +3,20 @@ use Prim.Native.Nat.{ℕ, zero, suc, ◌+◌, ◌-◌, ◌*◌, ◌/◌, ◌%◌
 use mathlib.Core.Path.{◌≡◌, refl, sym, ◌∙◌}
 use mathlib.Core.List.{List}
 use native.Mathlib.Numerals.{add-one}
-use native.Mathlib.Nat.{mul-le-mul, mod-lt, div-add-mod', div-le_self}
+use native.Mathlib.Nat.{mul-le-mul, mod-lt, div-add-mod', div-le_self, le_refl}
 use native.Mathlib.Omega.{arith}
 use borrow.Author.Tests.{eq-eqb, ne_eqb}
-use lib.Arith.{digits_lt}
+use lib.Arith.{digits_lt, digits_mod}
 use lib.ListN.{length, set, replicate, get_or-replicate, length-replicate}
 use lib.Ieee.{Float, nan, neg}
 use Rattle.number.specs.Number.{◌⊕◌, ◌⊖◌, ◌⊗◌, zero⁺, one}
 use Rattle.number.specs.Table.{◌!◌, fill_at}
-use Rattle.number.proofs.Table.{fill_at_lem, fill_is, fill_set}
-use Rattle.window.proofs.Windows.{label_labels}
+use Rattle.number.proofs.Table.{fill_at_lem, fill_at_ext, fill_is, fill_set}
+use Rattle.window.specs.declared.sizes.Sizes.{Sizes}
+use Rattle.window.proofs.Windows.{label_labels, label_cut}
 use Rattle.params.specs.declared.MsarParams.{MsarParams}
 use Rattle.params.specs.Parameters.{k, p, φ}
-use Rattle.rows.proofs.ByPlace.{label_runs, label_now}
+use Rattle.rows.proofs.ByPlace.{row_label, label_runs, label_now}
 use Rattle.density.specs.Steps.{phis_of}
 use Rattle.density.proofs.Means.{phi_at}
 use Rattle.rows.specs.Smoothed.{label_at, time_at}
@@ -27,8 +28,9 @@ pub left_is : (n k : ℕ) → n % k ≡ n - n / k * k
 left_is n k = omega (arith, div-add-mod' n k)
 
 -- φ_(l+1) of label s has a place
-pub phi_within : (l s order count : ℕ) → l < order → order ≤ 7 → s < count → count ≤ 16 → l * count + s < 112
-phi_within l s order count h o i j = omega (arith, digits_lt h i, mul-le-mul o j)
+pub phi_within : (z : Sizes) (l s : ℕ) → l < z.order → s < z.k → l * z.k + s < 112
+phi_within z l s h i =
+    omega (arith, digits_lt h i, mul-le-mul z.few_lags z.shape.high)
 
 -- ---- a sensitivity, lag by lag; `rest` has the labels from lag l + 1 on
 
@@ -78,6 +80,28 @@ module _ (count a : ℕ) (phis : List Float) {s : ℕ} (now : s ≡ a % count) w
 pub sensitivity_at : (count order : ℕ) (phis : List Float) (a r : ℕ) → r < count → sensitivities_of count order phis a ! r ≡ sensitivity_to count phis a r order
 unfolding sensitivities_of
 sensitivity_at count order phis a r h = fill_at_lem _ count (replicate 16 zero⁺) refl r h
+
+-- a place has the sensitivities of its window
+module _ (z : Sizes) (i : ℕ) {a : ℕ} (h : a < z.windows) where
+  label_of : (l : ℕ) → l ≤ z.order → (i * z.windows + a) / z.k ^ l % z.k ≡ a / z.k ^ l % z.k
+  label_of l b =
+      let long = suc z.order in
+      let e = i * z.windows + a in
+      let few : 0 < z.k = omega (arith, z.shape.low) in
+      sym (label_labels z.k long e l (omega arith))
+      ∙ sym (label_cut z.k few long z.order e l b)
+      ∙ rw (← z.windows_value, digits_mod i h) (label_labels z.k long a l (omega arith))
+
+  pub sensitivity_of_window : (phis : List Float) (r l : ℕ) → l ≤ z.order → sensitivity_to z.k phis (i * z.windows + a) r l ≡ sensitivity_to z.k phis a r l
+  unfolding sensitivity_to
+  sensitivity_of_window phis r zero b = rw (row_label z.k z.order z.windows i a z.windows_value)
+  sensitivity_of_window phis r (suc l) b =
+      rw (label_of (suc l) b, row_label z.k z.order z.windows i a z.windows_value, sensitivity_of_window phis r l (omega arith))
+
+  pub sensitivities_of_window : (phis : List Float) → sensitivities_of z.k z.order phis a ≡ sensitivities_of z.k z.order phis (i * z.windows + a)
+  unfolding sensitivities_of
+  sensitivities_of_window phis =
+      fill_at_ext 0 _ z.k (replicate 16 zero⁺) _ (λ r _. sym (sensitivity_of_window phis r z.order (le_refl z.order)))
 
 -- ---- a reading, lag by lag
 

@@ -1,15 +1,15 @@
 -- The new means: a residual is d + Σ_r α_r μ[r] with d = y_t - Σ_l φ_l y_(t-l), so that (Σ g/σ² α α') μ = - Σ g/σ² d α.
 -- After Kim and Nelson (1999), 4.3, and document 01, "EM step"; model.rs, `update_means`.
-use Rattle.std.specs.Prelude.{ℕ, zero, suc, ◌-◌, ◌*◌, ◌/◌, ◌%◌, Bool, ◌&&◌, List, replicate, Float, if◌then◌else◌}
+use Rattle.std.specs.Prelude.{ℕ, zero, suc, ◌-◌, ◌*◌, ◌/◌, ◌%◌, Bool, ◌&&◌, List, replicate, Float, Result, if◌then◌else◌}
 use Rattle.std.specs.Float.Ieee.{neg, ne}
 use Rattle.number.specs.Number.{◌=?◌, ◌⊕◌, ◌⊖◌, ◌⊗◌, zero⁺, one}
 use Rattle.number.specs.Sums.{sum_where}
 use Rattle.number.specs.Table.{◌!◌, fill_at}
+use Rattle.refusal.specs.declared.Refusal.{Refusal}
 use Rattle.params.specs.declared.MsarParams.{MsarParams}
 use Rattle.params.specs.Parameters.{k, p, φ}
 use Rattle.rows.specs.Smoothed.{places, label_at, time_at, seen, precision}
 use Rattle.em_ridge.specs.Ridge.{solve_or_keep}
-use Rattle.em_ridge.specs.declared.Update.{Update}
 
 module _ (q : MsarParams) where
   -- d at place e with its first l lags
@@ -39,7 +39,7 @@ module _ (q : MsarParams) (rows : ℕ → List Float) where
   means_side y n r = sum_where (sensitive r) (λ e. neg (precision q rows e ⊗ d_to q y e (p q) ⊗ α q e r)) (places q n)
 
 -- 21 with place 1 where the system is singular
-unfoldable pub new_means : MsarParams → List Float → ℕ → (ℕ → List Float) → Update
+unfoldable pub new_means : MsarParams → List Float → ℕ → (ℕ → List Float) → Result (List Float) Refusal
 new_means q y n rows =
     solve_or_keep 1 (k q)
     (fill_at 0 (λ e. means_cell q rows n (e / k q) (e % k q)) (k q * k q) (replicate 256 zero⁺))

@@ -5,9 +5,8 @@ use Rattle.std.specs.Float.Ieee.{neg, ne}
 use Rattle.number.specs.Number.{◌=?◌, ◌⊕◌, ◌⊖◌, ◌⊗◌, ◌⊘◌, zero⁺, one}
 use Rattle.number.specs.Table.{◌!◌, fill_at}
 use Rattle.rows.specs.Steps.{cell_at, precision_in}
-use Rattle.density.specs.Steps.{variances_from, phis_from}
-use Rattle.em_ridge.specs.Ridge.{solve_or_keep}
-use Rattle.em_ridge.specs.declared.Update.{Update}
+use Rattle.rows.specs.declared.smoothed.Smoothed.{Smoothed}
+use Rattle.em_means.specs.declared.Equations.{Equations}
 
 -- ---- by place, or window number, and label; phis has φ_(l+1) of label s at place l · k + s
 
@@ -66,18 +65,22 @@ cell_term k order phis w x e = w e ⊗ sensitivity_to k phis e (x / k) order ⊗
 unfoldable pub side_term : ℕ → ℕ → List Float → (ℕ → Float) → (ℕ → Float) → ℕ → ℕ → Float
 side_term k order phis w d r e = neg (w e ⊗ d e ⊗ sensitivity_to k phis e r order)
 
-pub record Summed (k order : ℕ) (phis work : List Float) (w d : ℕ → Float) (e : ℕ) (mat rhs : List Float) : Type 0 where
-  pub cells : mat ≡ fill_at 0 (cell_at (λ x. felt k order phis work (x / k)) (cell_term k order phis w) e) (k * k) (replicate 256 zero⁺)
-  pub sides : rhs ≡ fill_at 0 (cell_at (felt k order phis work) (side_term k order phis w d) e) k (replicate 16 zero⁺)
+-- of the smoothed rows s all places before e are summed; phis and variances are by label
+module _ (s : Smoothed) (phis variances : List Float) where
+  abbrev pub felt_in : ℕ → ℕ → Bool
+  felt_in = felt s.sizes.k s.sizes.order phis s.work.now
 
--- the equations solved, by n rows in work memory
-unfoldable pub means_by : ℕ → ℕ → ℕ → ℕ → List Float → List Float → List Float → List Float → ℕ → List Float → Update
-means_by k order blocks count means ar variances y n work =
-    let m = k ^ suc order in
-    let phis = phis_from ar blocks k order in
-    let w = precision_in k (variances_from variances count k) work in
-    let d = less_lags_in k order m phis y in
-    solve_or_keep 1 k
-    (fill_at 0 (cell_at (λ x. felt k order phis work (x / k)) (cell_term k order phis w) (n * m)) (k * k) (replicate 256 zero⁺))
-    (fill_at 0 (cell_at (felt k order phis work) (side_term k order phis w d) (n * m)) k (replicate 16 zero⁺))
-    means
+  abbrev pub cell_in : ℕ → ℕ → Float
+  cell_in = cell_term s.sizes.k s.sizes.order phis (precision_in s.sizes.k variances s.work.now)
+
+  abbrev pub side_in : ℕ → ℕ → Float
+  side_in =
+      side_term s.sizes.k s.sizes.order phis (precision_in s.sizes.k variances s.work.now) (less_lags_in s.sizes.k s.sizes.order s.sizes.windows phis s.y.now)
+
+  pub record Summed (e : ℕ) (sums : Equations) : Type 0 where
+    pub cells : sums.table ≡ fill_at 0 (cell_at (λ x. felt_in (x / s.sizes.k)) cell_in e) (s.sizes.k * s.sizes.k) (replicate 256 zero⁺)
+    pub sides : sums.side ≡ fill_at 0 (cell_at felt_in side_in e) s.sizes.k (replicate 16 zero⁺)
+
+  -- the same over the windows of the rows before row i
+  abbrev pub RowsSummed : ℕ → Equations → Type 0
+  RowsSummed i = Summed (i * s.sizes.windows)

@@ -1,21 +1,13 @@
 // Normal equations with a ridge.
 #![tactic(auto)]
 
-ghost use Rattle.std.specs.Prelude.{◌≡◌, ◌*◌, ◌<◌, ◌≤◌, length};
+ghost use Rattle.std.specs.Prelude.{◌≡◌, ◌*◌, ◌<◌, ◌≤◌};
 ghost use Rattle.number.specs.Table.{fill_at};
-ghost use Rattle.em_ridge.specs.Ridge.{largest_to, ridged, refused_at, updated_by, solve_or_keep};
+ghost use Rattle.em_ridge.specs.Ridge.{largest_to, ridged, solve_or_keep};
 
-use linsolve::{Outcome, Solution};
-use refusal::{Check, Refusal};
+use refusal::Refusal;
 
 const SMALL: f64 = 1e-12;
-
-// New values in the first places of 16, or the refusal beside zeros.
-#[derive(Clone, Copy)]
-pub struct Update {
-    pub check: Check,
-    pub values: [f64; 16],
-}
 
 // The largest place of the diagonal, or +0.
 fn largest(a: &[f64; 256], n: usize) -> f64
@@ -31,38 +23,13 @@ fn largest(a: &[f64; 256], n: usize) -> f64
 
 // The ridge on each place of the diagonal.
 fn add_ridge(a: &mut [f64; 256], n: usize, scale: f64)
-    requires { (n ≤ 16) × (0 < n) × (length a.old ≡ 256) }
+    requires { (n ≤ 16) × (0 < n) }
     ensures { a.new ≡ fill_at 0 (ridged n a.old scale) (n * n) a.old }
 {
     let ridge = SMALL * scale;
     for i in 0..n {
         let at = i * n + i;
         a[at] = a[at] + ridge;
-    }
-}
-
-fn refused(which: usize, column: u8) -> Update
-    ensures { result ≡ refused_at which column }
-{
-    Update {
-        check: Check::Failed(Refusal::Singular(which, column)),
-        values: [0.0; 16],
-    }
-}
-
-// What the solver's answer says.
-fn update_by(solution: Solution, which: usize) -> Update
-    ensures { result ≡ updated_by solution.outcome solution.x which }
-{
-    let outcome = solution.outcome;
-    let x = solution.x;
-    match outcome {
-        Outcome::Solved => Update {
-            check: Check::Passed,
-            values: x,
-        },
-        Outcome::Singular(column) => refused(which, column),
-        Outcome::TooLarge => refused(which, 0),
     }
 }
 
@@ -74,18 +41,14 @@ pub fn solve_or_keep(
     n: usize,
     incumbent: [f64; 16],
     which: usize,
-) -> Update
+) -> Result<[f64; 16], Refusal>
     requires { (n ≤ 16) × (0 < n) }
     ensures { result ≡ solve_or_keep which n a b incumbent }
 {
     let scale = largest(&a, n);
     if !number::is_usable(scale) {
-        return Update {
-            check: Check::Passed,
-            values: incumbent,
-        };
+        return Ok(incumbent);
     }
     add_ridge(&mut a, n, scale);
-    let solution = linsolve::solve(a, b, n);
-    update_by(solution, which)
+    linsolve::solve(a, b, n).map_err(|why| Refusal::Singular(which, why.column()))
 }

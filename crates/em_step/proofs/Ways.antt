@@ -1,68 +1,51 @@
 -- The ways through a step, refused or not. Assumes nothing.
+use Rattle.std.specs.Prelude.{Ok, Err}
 use Prim.Native.Nat.{ℕ}
-use mathlib.Core.Path.{◌≡◌, sym, ap, ◌∙◌}
+use mathlib.Core.Path.{◌≡◌}
 use mathlib.Core.List.{List}
 use lib.Ieee.{Float}
-use Rattle.refusal.specs.declared.Check.{Check}
-use Rattle.refusal.specs.declared.Check.TheVariants.{Passed, Failed}
 use Rattle.refusal.specs.declared.Refusal.{Refusal}
 use Rattle.params.specs.declared.MsarParams.{MsarParams}
-use Rattle.params.specs.declared.Built.{Built}
-use Rattle.params.specs.Built.{nothing}
 use Rattle.params.specs.Checks.{parameter_check}
 use Rattle.em_counts.specs.Counts.{new_transition}
-use Rattle.em_ridge.specs.declared.Update.{Update}
 use Rattle.em_means.specs.Means.{new_means}
-use Rattle.em_coefficients.specs.declared.Blocks.{Blocks}
 use Rattle.em_coefficients.specs.Coefficients.{new_ar}
 use Rattle.em_variances.specs.Variances.{new_variances}
-use Rattle.em_step.specs.declared.Gaussian.{Gaussian}
-use Rattle.em_step.specs.Step.{with_tables, with_means, with_ar, with_gaussian, unsolved_by, ◌leads◌, improved, step_of}
-
--- a refusal, with no parameters
-abbrev pub refusing : Refusal → Built
-refusing r = record { check = Failed r; params = nothing }
+use Rattle.em_step.specs.Step.{with_transition, with_means, with_ar, with_variances, improved, step_of}
 
 module _ (y : List Float) (n : ℕ) (rows : ℕ → List Float) (q : MsarParams) where
   -- ---- once round
 
-  module _ {b : Gaussian} {u : Update} (means : u ≡ new_means q y n rows) where
-    pub means_refused : {r : Refusal} → u.check ≡ Failed r → b ≡ unsolved_by r → b ≡ improved y n rows q
+  pub means_refused : {r : Refusal} → Err r ≡ new_means q y n rows → Err r ≡ improved y n rows q
+  unfolding improved
+  means_refused e = rw (← e)
+
+  module _ {means : List Float} (d : Ok means ≡ new_means q y n rows) where
+    pub ar_refused : {r : Refusal} → Err r ≡ new_ar (with_means q means) y n rows → Err r ≡ improved y n rows q
     unfolding improved
-    means_refused d e = rw (← means, d) e
+    ar_refused e = rw (← d, ← e)
 
-    module _ (passed : u.check ≡ Passed) {a : Blocks} (ar : a ≡ new_ar (with_means q u.values) y n rows) where
-      pub ar_refused : {r : Refusal} → a.check ≡ Failed r → b ≡ unsolved_by r → b ≡ improved y n rows q
-      unfolding improved
-      ar_refused d e = rw (← means, passed, ← ar, d) e
-
-      pub all_improved : {v : List Float} → a.check ≡ Passed → v ≡ new_variances (with_ar (with_means q u.values) a.ar) y n rows
-          → b ≡ record { check = Passed; means = u.values; ar = a.ar; variances = v } → b ≡ improved y n rows q
-      unfolding improved
-      all_improved d v e = rw (← means, passed, ← ar, d, ← v) e
+    pub all_improved : {ar variances : List Float} → Ok ar ≡ new_ar (with_means q means) y n rows → variances ≡ new_variances (with_ar (with_means q means) ar) y n rows
+        → Ok (with_variances (with_ar (with_means q means) ar) variances) ≡ improved y n rows q
+    unfolding improved
+    all_improved e v = rw (← d, ← e, v)
 
   -- ---- the step
 
-  module _ {b : Built} {once : Gaussian} (first : once ≡ improved y n rows q) where
-    pub first_refused : {r : Refusal} → once.check ≡ Failed r → b ≡ refusing r → b ≡ step_of y n rows q
+  pub once_refused : {r : Refusal} → Err r ≡ improved y n rows q → Err r ≡ step_of y n rows q
+  unfolding step_of
+  once_refused e = rw (← e)
+
+  module _ {once : MsarParams} (d : Ok once ≡ improved y n rows q) where
+    pub twice_refused : {r : Refusal} → Err r ≡ improved y n rows once → Err r ≡ step_of y n rows q
     unfolding step_of
-    first_refused d e = rw (← first, d) e
+    twice_refused e = rw (← d, ← e)
 
-    module _ (passed : once.check ≡ Passed) {twice : Gaussian} (second : twice ≡ improved y n rows (with_gaussian q once)) where
-      pub second_refused : {r : Refusal} → twice.check ≡ Failed r → b ≡ refusing r → b ≡ step_of y n rows q
+    module _ {twice : MsarParams} {t : List Float} (d' : Ok twice ≡ improved y n rows once) (counted : t ≡ new_transition q n rows) where
+      pub check_refused : {r : Refusal} → Err r ≡ parameter_check (with_transition twice t) → Err r ≡ step_of y n rows q
       unfolding step_of
-      second_refused d e = rw (← first, passed, ← second, d) e
+      check_refused e = rw (← d, ← d', ← counted, ← e)
 
-      pub stepped : {t : List Float} → twice.check ≡ Passed → t ≡ new_transition q n rows
-          → b ≡ (parameter_check (with_tables q t twice.means twice.ar twice.variances) leads record { check = Passed; params = with_tables q t twice.means twice.ar twice.variances })
-          → b ≡ step_of y n rows q
+      pub stepped : Ok tt ≡ parameter_check (with_transition twice t) → Ok (with_transition twice t) ≡ step_of y n rows q
       unfolding step_of
-      stepped d t e = rw (← first, passed, ← second, d, ← t) e
-
--- its end
-module _ (q : MsarParams) {b : Built} where
-  pub checks_refused : {c : Check} {r : Refusal} → c ≡ parameter_check q → c ≡ Failed r → b ≡ refusing r → b ≡ (parameter_check q leads record { check = Passed; params = q })
-  checks_refused e d h = h ∙ ap (λ (x : Check). x leads record { check = Passed; params = q }) (sym d ∙ e)
-
-  pub checks_passed : {c : Check} → c ≡ parameter_check q → c ≡ Passed → b ≡ record { check = Passed; params = q } → b ≡ (parameter_check q leads record { check = Passed; params = q })
-  checks_passed e d h = h ∙ ap (λ (x : Check). x leads record { check = Passed; params = q }) (sym d ∙ e)
+      stepped e = rw (← d, ← d', ← counted, ← e)

@@ -61,11 +61,10 @@ module _ (k count : ℕ) (work : List Float) (ε : ℕ → Float) where
 -- ---- the residuals by place
 
 module _ (k order : ℕ) (phis means y : List Float) where
-  pub residual_there : (m i a t : ℕ) (d : List Float) {row : List Float} → m ≡ k ^ suc order → t ≡ order + i → a < m
-      → row ≡ fill_at 0 (residual_by k order phis means y t) (k ^ suc order) d
+  pub residual_there : (m i a : ℕ) (d : List Float) {row : List Float} → a < m → row ≡ fill_at 0 (residual_by k order phis means y (order + i)) m d
       → row ! a ≡ residual_in k order m phis means y (i * m + a)
   unfolding residual_in
-  residual_there m i a t d w z h e = fill_at_lem _ (k ^ suc order) d e a (rw (← w) h) ∙ rw (z, digits_div i h, digits_mod i h)
+  residual_there m i a d h e = fill_at_lem _ m d e a h ∙ rw (digits_div i h, digits_mod i h)
 
 turned_at : (phis : List Float) (e : ℕ) → e < 112 → turned phis ! e ≡ neg (phis ! e)
 unfolding turned
@@ -88,15 +87,15 @@ module _ (q : MsarParams) (pos : 0 < k q) (high : k q ≤ 16) (few : p q ≤ 7) 
 
 -- ---- the variances
 
-pub variances_by_lem : (k order blocks count : ℕ) (means ar variances y : List Float) (floor : Float) (n : ℕ) (work : List Float) (m : ℕ) {phis squares weights r : List Float}
-    → m ≡ k ^ suc order → phis ≡ turned (phis_from ar blocks k order) → count ≤ 16
-    → Summed k count work (residual_in k order m phis means y) (n * m) squares weights
-    → r ≡ fill_at 0 (λ b. variance_of floor (squares ! b) (weights ! b) (variances ! b)) count variances
-    → r ≡ variances_by k order blocks count means ar variances y floor n work
+pub variances_by_lem : (q : MsarParams) (y : List Float) (floor : Float) (n : ℕ) (work : List Float) (k' order m : ℕ) {phis squares weights r : List Float}
+    → k' ≡ k q → order ≡ p q → m ≡ k' ^ suc order → phis ≡ turned (phis_from q.ar q.ar_blocks (k q) (p q)) → q.variances_count ≤ 16
+    → Summed k' q.variances_count work (residual_in k' order m phis q.means y) (n * m) squares weights
+    → r ≡ fill_at 0 (λ b. variance_of floor (squares ! b) (weights ! b) (q.variances ! b)) q.variances_count q.variances
+    → r ≡ variances_by q y floor n work
 unfolding variances_by
-variances_by_lem k order blocks count means ar variances y floor n work m w f h S e =
-    let all = rw (w, f) at S in
-    e ∙ fill_at_ext 0 _ count variances _ (λ b l. rw (fill_at_lem _ 16 _ all.squared b (omega arith), fill_at_lem _ 16 _ all.weighed b (omega arith)))
+variances_by_lem q y floor n work k' order m l o w f h S e =
+    let all = rw (w, l, o, f) at S in
+    e ∙ fill_at_ext 0 _ q.variances_count q.variances _ (λ b i. rw (fill_at_lem _ 16 _ all.squared b (omega arith), fill_at_lem _ 16 _ all.weighed b (omega arith)))
 
 module _ (q : MsarParams) (pos : 0 < k q) (high : k q ≤ 16) (few : p q ≤ 7) (y work : List Float) (n : ℕ) where
   abbrev ε : ℕ → Float
@@ -115,7 +114,7 @@ module _ (q : MsarParams) (pos : 0 < k q) (high : k q ≤ 16) (few : p q ≤ 7) 
   weights_are b = where_ext _ _ _ _ (places q n) (counted b) (λ e _. sym (weight_in_memory q work e))
 
   pub variances_are : (floor : Float) → floor ≡ small ⊗ sample_variance y
-      → variances_by (k q) (p q) q.ar_blocks q.variances_count q.means q.ar q.variances y floor n work ≡ new_variances q y n (rows_in q work)
+      → variances_by q y floor n work ≡ new_variances q y n (rows_in q work)
   unfolding variances_by new_variances new_variance variance_of
   variances_are floor e = fill_at_ext 0 _ q.variances_count q.variances _ (λ b _. rw (e, squares_are b, weights_are b))
 

@@ -63,9 +63,11 @@ fn whole_part(v: f64) -> u64
     requires { From false v 1 2 × Within v 2239 2 }
     ensures { result ≡ to_unsigned 64 v }
 {
-    let b = f64::to_bits(v);
+    let b = v.to_bits();
     (0x10_0000_0000_0000 + b % 0x10_0000_0000_0000) >> (1075 - b / 0x10_0000_0000_0000)
 }
+
+// Up and down are two functions: the one adds to the exponent, the other takes from it, near zero in two steps.
 
 // x at least 1.5 ln 2. It is not above the overflow threshold, so that the last pattern is infinity's at most, and no NaN's.
 fn exp_up(x: f64) -> f64
@@ -75,7 +77,7 @@ fn exp_up(x: f64) -> f64
     let n = whole_part(INV_LN2 * x + HALF[0]);
     let t = number::of_whole(n);
     let y = exp_part(x - t * LN2_HI[0], t * LN2_LO[0]);
-    f64::from_bits(f64::to_bits(y) + n * 0x10_0000_0000_0000)
+    f64::from_bits(y.to_bits() + n * 0x10_0000_0000_0000)
 }
 
 // x at most -1.5 ln 2: the usual argument of a density
@@ -86,7 +88,7 @@ fn exp_down(x: f64) -> f64
     let n = whole_part(-(INV_LN2 * x + HALF[1]));
     let t = -number::of_whole(n);
     let y = exp_part(x - t * LN2_HI[0], t * LN2_LO[0]);
-    let b = f64::to_bits(y);
+    let b = y.to_bits();
     if n <= 1021 {
         return f64::from_bits(b - n * 0x10_0000_0000_0000);
     }
@@ -99,7 +101,7 @@ fn exp_near(x: f64, hx: u64, s: usize) -> f64
     ensures { result ≡ exp_near x s }
 {
     let y = exp_part(x - LN2_HI[s], LN2_LO[s]);
-    f64::from_bits(f64::to_bits(y) + 0x10_0000_0000_0000 - (s as u64) * 0x20_0000_0000_0000)
+    f64::from_bits(y.to_bits() + 0x10_0000_0000_0000 - (s as u64) * 0x20_0000_0000_0000)
 }
 
 fn exp_reduce(x: f64, hx: u64, s: usize) -> f64
@@ -145,10 +147,10 @@ fn exp_large(x: f64, hx: u64, s: usize) -> f64
 pub fn exp(x: f64) -> f64
     ensures { result ≡ exp_of x }
 {
-    if x != x {
+    if x.is_nan() {
         return x + x;
     }
-    let b = f64::to_bits(x);
+    let b = x.to_bits();
     let hx = b % 0x8000_0000_0000_0000 / 0x1_0000_0000;
     let s = (b / 0x8000_0000_0000_0000) as usize;
     if hx >= 0x40862e42 {

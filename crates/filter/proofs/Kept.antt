@@ -1,4 +1,5 @@
 -- What the loop over rows keeps: the rows so far are the filter's, and so is the prediction of the next. Assumes nothing.
+use Rattle.std.specs.Prelude.{Ok}
 use Prim.Native.Nat.{ℕ, suc, ◌+◌, ◌*◌, ◌^◌, ◌<◌, ◌≤◌}
 use mathlib.Core.Path.{◌≡◌, refl, sym, ap, subst, ◌∙◌}
 use mathlib.Core.Bool.{true, false, not, true≢false}
@@ -14,9 +15,7 @@ use Rattle.number.specs.Table.{◌!◌, fill_at}
 use Rattle.number.proofs.Sums.{sum_none, sum_next, sum_ext}
 use Rattle.number.proofs.Table.{fill_at_lem}
 use Rattle.logarithm.specs.Log.{log_of}
-use Rattle.refusal.specs.Checks.{each}
-use Rattle.refusal.specs.declared.Check.{Check}
-use Rattle.refusal.specs.declared.Check.TheVariants.{Passed, Failed}
+use Rattle.refusal.specs.Checks.{Check, Passed, Failed, each}
 use Rattle.refusal.specs.declared.Refusal.{Refusal}
 use Rattle.refusal.specs.declared.Refusal.TheVariants.{Likelihood}
 use Rattle.refusal.proofs.Each.{each_none, each_more, each_found}
@@ -36,7 +35,6 @@ use Rattle.prediction.specs.declared.Rule.{Rule}
 use Rattle.prediction.specs.Steps.{first_at, step_at, later_at}
 use Rattle.prediction.proofs.Predicted.{first_row_is, step_at_lem, later_row_is}
 use Rattle.filter.specs.Filter.{weight, total, updated, predicted_row, filtered_row, likelihood, likelihood_check, loglik_to, answer_after}
-use Rattle.filter.specs.declared.Answer.{Answer}
 use Rattle.filter.specs.Steps.{Weighed, Held}
 
 -- ---- a row counts by its first m places
@@ -166,7 +164,7 @@ module _ (rule : Rule) (q : MsarParams) (y shares : List Float) (n m kept : ℕ)
 
 module _ (rule : Rule) (q : MsarParams) (y shares : List Float) (n m kept : ℕ) (work₀ : List Float) (i : ℕ) (predicted work : List Float) (ll : Float)
     (so_far : Kept rule q y shares n m kept work₀ i predicted ll work) (all : i ≡ n) where
-  pub answer_is : record { check = Passed; loglik = ll } ≡ answer_after (each n (likelihood_check rule q y shares)) (loglik_to rule q y shares n)
+  pub answer_is : Ok ll ≡ answer_after (each n (likelihood_check rule q y shares)) (loglik_to rule q y shares n)
   answer_is =
       ap (λ (x : Float). answer_after Passed x) (so_far.loglik_is ∙ ap (loglik_to rule q y shares) all)
       ∙ ap (λ (d : Check). answer_after d (loglik_to rule q y shares n)) (sym (sym (ap (λ (j : ℕ). each j (likelihood_check rule q y shares)) all) ∙ so_far.passed_so_far))
@@ -174,7 +172,7 @@ module _ (rule : Rule) (q : MsarParams) (y shares : List Float) (n m kept : ℕ)
   pub all_held : Held rule q y shares n m kept n work
   all_held = subst (λ (j : ℕ). Held rule q y shares n m kept j work) all so_far.rows
 
--- ---- an answer that refuses has not passed
+-- ---- a refusal has not passed
 
-pub refusal_stays : {a : Answer} {r : Refusal} (loglik : Float) → a ≡ answer_after (Failed r) loglik → a.check ≡ Passed → ⊥
-refusal_stays {a} {r} loglik e d = let f : Failed r ≡ Passed = sym (ap (λ (x : Answer). x.check) e) ∙ d in true≢false cc
+pub refusal_stays : {r : Refusal} → Failed r ≡ Passed → ⊥
+refusal_stays d = true≢false cc

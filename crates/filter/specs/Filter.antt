@@ -1,24 +1,22 @@
 -- The filter: for each row the predicted and the filtered weights of the windows and the likelihood of its reading; the log-likelihood of all.
 -- After Hamilton (1989) and document 01, "Update"; refusal 23. The parameters have passed their checks, and k and p are theirs; the shares from which
 -- it starts are handed to it, and so is the rule by which a later prediction is made.
-use Rattle.std.specs.Prelude.{ℕ, zero, suc, ◌-◌, ◌^◌, not, List, length, Float}
-use Rattle.number.specs.Number.{◌⊗◌, ◌⊘◌, zero⁺, usable}
+use Rattle.std.specs.Prelude.{ℕ, zero, suc, ◌-◌, ◌^◌, not, List, length, Float, Result, Ok}
+use Rattle.number.specs.Number.{◌⊗◌, ◌⊘◌, usable}
 use Rattle.number.specs.Sums.{sum_up}
 use Rattle.logarithm.specs.Log.{log_of}
 use Rattle.window.specs.Time.{time_of}
 use Rattle.window.specs.Windows.{labels}
-use Rattle.refusal.specs.Checks.{◌before◌, ◌when◌, each}
-use Rattle.refusal.specs.declared.Check.{Check}
-use Rattle.refusal.specs.declared.Check.TheVariants.{Passed, Failed}
+use Rattle.refusal.specs.Checks.{Check, ◌before◌, ◌when◌, check_of, each}
+use Rattle.refusal.specs.declared.Refusal.{Refusal}
 use Rattle.refusal.specs.declared.Refusal.TheVariants.{Likelihood}
 use Rattle.params.specs.declared.MsarParams.{MsarParams}
 use Rattle.params.specs.Parameters.{k, p}
-use Rattle.stationary.specs.declared.Shares.{Shares}
+use Rattle.stationary.specs.Stationary.{values_of}
 use Rattle.rows.specs.Rows.{entry, row_of}
 use Rattle.density.specs.Density.{density}
 use Rattle.prediction.specs.Prediction.{first_prediction, later_prediction}
 use Rattle.prediction.specs.declared.Rule.{Rule}
-use Rattle.filter.specs.declared.Answer.{Answer}
 
 -- ---- row i, whose reading stands at time p + i, updated with its prediction
 
@@ -69,11 +67,11 @@ filter_check rule q y shares = each (row_count q y) (likelihood_check rule q y s
 unfoldable pub loglik_of : Rule → MsarParams → List Float → List Float → Float
 loglik_of rule q y shares = loglik_to rule q y shares (row_count q y)
 
--- after a refusal the log-likelihood is zero
-abbrev pub answer_after : Check → Float → Answer
-answer_after Passed loglik = record { check = Passed; loglik = loglik }
-answer_after (Failed r) loglik = record { check = Failed r; loglik = zero⁺ }
+-- the log-likelihood, where there is no refusal
+abbrev pub answer_after : Check → Float → Result Float Refusal
+answer_after check loglik = check before Ok loglik
 
 -- from shares that have a check of their own, which comes first
-unfoldable pub filter_answer : Rule → MsarParams → List Float → Shares → Answer
-filter_answer rule q y start = answer_after (start.check before filter_check rule q y start.values) (loglik_of rule q y start.values)
+unfoldable pub filter_answer : Rule → MsarParams → List Float → Result (List Float) Refusal → Result Float Refusal
+filter_answer rule q y start =
+    answer_after (check_of start before filter_check rule q y (values_of start)) (loglik_of rule q y (values_of start))

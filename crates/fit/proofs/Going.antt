@@ -1,6 +1,6 @@
 -- What the passes keep: the parameters pass their checks and have the start's counts, and there are at most as many passes as asked for.
 -- Assumes nothing.
-use Rattle.std.specs.Prelude.{if◌then◌else◌}
+use Rattle.std.specs.Prelude.{if◌then◌else◌, Result, Ok, Err}
 use Prim.Native.Nat.{ℕ, zero, suc, ◌+◌, ◌-◌, ◌≤◌}
 use mathlib.Core.Path.{◌≡◌, refl, sym, ap, subst, ◌∙◌}
 use mathlib.Core.Bool.{Bool, true, false, not}
@@ -10,9 +10,7 @@ use native.Mathlib.Numerals.{add-one}
 use lib.Ieee.{Float}
 use lib.Ieee.Scale.{finite}
 use Rattle.number.specs.Number.{zero⁺}
-use Rattle.refusal.specs.Checks.{◌before◌, ◌when◌}
-use Rattle.refusal.specs.declared.Check.{Check}
-use Rattle.refusal.specs.declared.Check.TheVariants.{Passed, Failed}
+use Rattle.refusal.specs.Checks.{Check, Passed, Failed, ◌when◌, ◌before◌}
 use Rattle.refusal.specs.declared.Refusal.{Refusal}
 use Rattle.refusal.specs.declared.Refusal.TheVariants.{Loglike}
 use Rattle.params.specs.declared.MsarParams.{MsarParams}
@@ -25,24 +23,31 @@ use Rattle.em_step.proofs.Kept.{Alike, alike_twice, Good, step_good}
 use Rattle.fit.specs.declared.Course.{Course}
 use Rattle.fit.specs.declared.Course.TheVariants.{Going, Converged, Refused}
 use Rattle.fit.specs.declared.State.{State}
-use Rattle.fit.specs.Fit.{reached, smoothed_rows, stops, pass_of, onward, passes_to}
+use Rattle.fit.specs.Fit.{reached, stepped, smoothed_rows, stops, pass_of, onward, passes_to}
 
 -- ---- the loop
 
+-- the state that the passes begin with
+pub begins : (y : List Float) (tol : Float) (s : State) → s.course ≡ Going → s.loglik ≡ zero⁺ → s ≡ passes_to y tol s.params 0
+unfolding passes_to
+begins y tol s going nothing =
+    ap (λ (c : Course). record { course = c; params = s.params; loglik = s.loglik }) going ∙ ap (λ (x : Float). record { course = Going; params = s.params; loglik = x }) nothing
+
 module _ (y : List Float) (tol : Float) (start : MsarParams) where
-  pub none : {l : Float} → l ≡ zero⁺ → record { course = Going; params = start; loglik = l } ≡ passes_to y tol start 0
+  pub none : record { course = Going; params = start; loglik = zero⁺ } ≡ passes_to y tol start 0
   unfolding passes_to
-  none e = ap (λ (x : Float). record { course = Going; params = start; loglik = x }) e
+  none = refl
 
   next_is : (i : ℕ) → passes_to y tol start (suc i) ≡ onward y tol i (passes_to y tol start i) (passes_to y tol start i).course
   unfolding passes_to
   next_is i = refl
 
-  -- one more, from the parameters and the log-likelihood that the first i left
-  pub one_more : (i : ℕ) {q : MsarParams} {last : Float} {s : State} → record { course = Going; params = q; loglik = last } ≡ passes_to y tol start i
-      → s ≡ pass_of y tol i q last → s ≡ passes_to y tol start (i + 1)
-  one_more i {q} {last} e d =
+  -- one more, from the state that the first i left
+  pub one_more : (i : ℕ) {s t : State} → s ≡ passes_to y tol start i → s.course ≡ Going → t ≡ pass_of y tol i s.params s.loglik
+      → t ≡ passes_to y tol start (i + 1)
+  one_more i {s} e going d =
       d
+      ∙ sym (ap (onward y tol i s) going)
       ∙ ap (λ (t : State). onward y tol i t t.course) e
       ∙ sym (next_is i)
       ∙ ap (passes_to y tol start) (sym (add-one i))
@@ -84,6 +89,11 @@ module _ (start : MsarParams) where
   reached_kept j q last Passed s h = h refl
   reached_kept j q last (Failed r) s h = tt
 
+  stepped_kept : (j : ℕ) (q : MsarParams) (last loglik : Float) (new : Result MsarParams Refusal) → ((q' : MsarParams) → new ≡ Ok q' → Good q' start)
+      → Kept start j (stepped q last loglik new).course (stepped q last loglik new).params
+  stepped_kept j q last loglik (Ok q') h = h q' refl
+  stepped_kept j q last loglik (Err r) h = tt
+
   either_kept : (j : ℕ) (b : Bool) (s t : State) → Kept start j s.course s.params → Kept start j t.course t.params
       → Kept start j (if b then s else t).course (if b then s else t).params
   either_kept j true s t h g = h
@@ -96,7 +106,7 @@ module _ (start : MsarParams) where
         let new = step_of y (row_count q y) (smoothed_rows q y) q in
         reached_kept (suc i) q last (run_check One q y before Loglike when not (finite (run_loglik One q y))) _ (λ _.
         either_kept (suc i) (stops tol i last (run_loglik One q y)) _ _ (good, omega arith)
-        (reached_kept (suc i) q last new.check _ (λ d.
+        (stepped_kept (suc i) q last (run_loglik One q y) new (λ q' d.
         let g = step_good y (row_count q y) (smoothed_rows q y) q d in
         record { alike = alike_twice g.alike good.alike; checked = g.checked })))
 

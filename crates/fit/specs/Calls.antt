@@ -1,10 +1,9 @@
 -- The call `fit`: for every input the answer, and all lent memory at exit as a function of what was lent.
 -- After document 01, "Refusals by number" (24 and 25 after 20) and "How much a contract says", and of work memory document 02, Q-8.
-use Rattle.std.specs.Prelude.{ℕ, false, not, List, length, Float}
-use Rattle.number.specs.Number.{◌=?◌, zero⁺, usable}
-use Rattle.refusal.specs.Checks.{◌before◌, ◌when◌}
-use Rattle.refusal.specs.declared.Check.{Check}
-use Rattle.refusal.specs.declared.Check.TheVariants.{Passed, Failed}
+use Rattle.std.specs.Prelude.{ℕ, not, List, length, Float, Result, Err}
+use Rattle.number.specs.Number.{◌=?◌, usable}
+use Rattle.refusal.specs.declared.Refusal.{Refusal}
+use Rattle.refusal.specs.Checks.{Check, Passed, Failed, ◌before◌, ◌when◌}
 use Rattle.refusal.specs.declared.Refusal.TheVariants.{OrderZero, SampleVariance}
 use Rattle.spec.specs.declared.MsarSpec.{MsarSpec}
 use Rattle.params.specs.declared.MsarParams.{MsarParams}
@@ -16,7 +15,7 @@ use Rattle.calls.specs.Calls.{cleared, smoothed_table}
 use Rattle.fit.specs.declared.Course.{Course}
 use Rattle.fit.specs.declared.Course.TheVariants.{Going, Converged, Refused}
 use Rattle.fit.specs.declared.Fitted.{Fitted}
-use Rattle.fit.specs.Fit.{passes_to, fitted_after, fitted_of}
+use Rattle.fit.specs.Fit.{passes_to, fitted_of}
 
 -- 24 at order zero, 25 where the sample variance is not finite or not above zero
 unfoldable pub fit_check : MsarParams → List Float → Check
@@ -32,14 +31,14 @@ unfoldable pub fitted_table : List Float → Float → ℕ → MsarParams → Li
 fitted_table y tol maxIter start found = let s = passes_to y tol start maxIter in table_at y s.params s.course found
 
 pub record FitOutcome : Type 0 where
-  pub answer : Fitted
+  pub answer : Result Fitted Refusal
   pub work : List Float
   pub smoothed : List Float
 
 -- a refusal of what the caller handed in touches no lent memory
-abbrev pub fit_called : Check → MsarParams → List Float → List Float → FitOutcome → FitOutcome
-fit_called (Failed r) q work smoothed run = record { answer = fitted_after (Failed r) q zero⁺ 0 false; work = work; smoothed = smoothed }
-fit_called Passed q work smoothed run = run
+abbrev pub fit_called : Check → List Float → List Float → FitOutcome → FitOutcome
+fit_called (Failed r) work smoothed run = record { answer = Err r; work = work; smoothed = smoothed }
+fit_called Passed work smoothed run = run
 
 unfoldable pub fit_call : MsarSpec → List Float → MsarParams → ℕ → Float → List Float → List Float → FitOutcome
 fit_call S y start maxIter tol work smoothed =
@@ -49,7 +48,7 @@ fit_call S y start maxIter tol work smoothed =
     before memory_check (length smoothed) (table_need S y))
     start
     before fit_check start y)
-    start work smoothed
+    work smoothed
     (record {
       answer = fitted_of y tol maxIter start;
       work = cleared (smooth_need S y) work;

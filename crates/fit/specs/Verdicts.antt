@@ -1,10 +1,9 @@
 -- What the steps of the code give: what a pass says before its step, and what the end of the passes says. The proofs show that it is the definition's.
-use Rattle.std.specs.Prelude.{ℕ, suc, true, false, not, List, Float, if◌then◌else◌}
+use Rattle.std.specs.Prelude.{ℕ, suc, true, false, not, List, Float, if◌then◌else◌, Result, Ok, Err}
 use Rattle.std.specs.Float.Ieee.Scale.{finite}
 use Rattle.number.specs.Number.{zero⁺}
-use Rattle.refusal.specs.Checks.{◌before◌, ◌when◌}
-use Rattle.refusal.specs.declared.Check.{Check}
-use Rattle.refusal.specs.declared.Check.TheVariants.{Passed, Failed}
+use Rattle.refusal.specs.declared.Refusal.{Refusal}
+use Rattle.refusal.specs.Checks.{Check, Passed, Failed, ◌before◌, ◌when◌}
 use Rattle.refusal.specs.declared.Refusal.TheVariants.{Loglike}
 use Rattle.params.specs.declared.MsarParams.{MsarParams}
 use Rattle.prediction.specs.declared.Rule.TheVariants.{One}
@@ -26,7 +25,7 @@ verdict_of y tol i q last =
     (record { course = if stops tol i last loglik then Converged (suc i) else Going; loglik = loglik })
 
 -- where the passes ended: their refusal, or how many there were and whether they converged
-abbrev pub end_of : ℕ → Course → End
-end_of maxIter Going = record { check = Passed; iterations = maxIter; converged = false }
-end_of maxIter (Converged n) = record { check = Passed; iterations = n; converged = true }
-end_of maxIter (Refused r) = record { check = Failed r; iterations = 0; converged = false }
+abbrev pub end_of : ℕ → Course → Result End Refusal
+end_of maxIter Going = Ok (record { iterations = maxIter; converged = false })
+end_of maxIter (Converged n) = Ok (record { iterations = n; converged = true })
+end_of maxIter (Refused r) = Err r

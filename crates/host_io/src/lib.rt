@@ -62,14 +62,11 @@ pub fn read_full(rt: &impl Input, buf: &mut [u8]) -> usize
     done
 }
 
-// 0 where the input ends, or a read fails.
+// 0 where the input ends, as std's `read` says it, or a read fails.
 fn read_some(input: &mut impl Read, buf: &mut [u8]) -> usize
     ensures { result ≤ length buf.new }
 {
-    match input.read(buf) {
-        Ok(n) => n,
-        Err(_) => 0,
-    }
+    input.read(buf).unwrap_or(0)
 }
 
 // ---- the command line
@@ -81,33 +78,23 @@ pub fn buffer() -> [u8; 4096]
     [0; 4096]
 }
 
-// Puts word i of the command line at the start of `buf`, and says how many bytes it has: 0 where there is none, or it does not fit.
+// Puts word i of the command line at the start of `buf`, and says how many bytes it has: 0 where there is none, or it does not fit,
+// which its callers take for an empty word.
 // Word 0 is the program's name.
 pub fn arg(rt: &impl Env, i: usize, buf: &mut [u8]) -> usize
     ensures { result ≤ length buf.new }
 {
-    match rt.arg(i, buf) {
-        Ok(n) => n,
-        Err(_) => 0,
-    }
+    rt.arg(i, buf).unwrap_or(0)
 }
 
 // How many words there are, the program's name among them.
 pub fn arg_count(rt: &impl Env) -> usize {
-    for i in 0..usize::MAX {
-        if !has_arg(rt, i) {
-            return i;
-        }
-    }
-    usize::MAX
+    (0..usize::MAX).take_while(|i| has_arg(rt, *i)).count()
 }
 
 fn has_arg(rt: &impl Env, i: usize) -> bool {
     let mut start = [0; 1];
-    match rt.arg(i, &mut start) {
-        Err(FillError::NotPresent) => false,
-        _ => true,
-    }
+    !matches!(rt.arg(i, &mut start), Err(FillError::NotPresent))
 }
 
 // ---- files

@@ -1,4 +1,5 @@
 -- Values of `solve_of`, computed: one for each rule of document 01's "Solver" and for each outcome. Assumes nothing.
+use Rattle.std.specs.Prelude.{Result, Ok, Err}
 use Prim.Native.Nat.{ℕ}
 use mathlib.Core.Path.{◌≡◌, refl}
 use mathlib.Core.Bool.{false, true}
@@ -8,8 +9,8 @@ use lib.Ieee.{Float, nan, inf, of_bits, sub, mul, div, lt, ne}
 use Rattle.number.specs.Number.{◌⊖◌, float, zero⁺, one, two, magnitude_of}
 use Rattle.number.specs.Table.{tab, fill_at}
 use Rattle.linsolve.specs.Solver.{better, pivot_to, swap_rows, placed, less, less_row, clear_row, clear_to, tiny, is_small, column, eliminate_to, less_known, unknown, zeros, back_to, answer, solve_of}
-use Rattle.linsolve.specs.declared.Solution.{Solution}
-use Rattle.linsolve.specs.declared.Outcome.TheVariants.{Solved, Singular, TooLarge}
+use Rattle.linsolve.specs.declared.Unsolved.{Unsolved}
+use Rattle.linsolve.specs.declared.Unsolved.TheVariants.{Singular, TooLarge}
 
 -- two rows of two columns, and two places
 abbrev table : Float → Float → Float → Float → List Float
@@ -18,11 +19,11 @@ table p q r s = p ∷ q ∷ r ∷ s ∷ replicate 252 zero⁺
 abbrev side : Float → Float → List Float
 side u v = u ∷ v ∷ replicate 14 zero⁺
 
-abbrev solved : List Float → Solution
-solved x = record { outcome = Solved; x = x }
+abbrev solved : List Float → Result (List Float) Unsolved
+solved x = Ok x
 
-abbrev singular : ℕ → Solution
-singular c = record { outcome = Singular c; x = zeros }
+abbrev singular : ℕ → Result (List Float) Unsolved
+singular c = Err (Singular c)
 
 abbrev minus_one : Float
 minus_one = float 0xBFF0_0000_0000_0000
@@ -58,7 +59,7 @@ pub record Values : Type 0 where
   -- a factor of zero is skipped: zero times infinity would make y a NaN
   pub skipped : solve_of 2 (table one (inf false) zero⁺ one) (side one one) ≡ solved (side (inf true) one)
   pub no_rows : solve_of 0 (table nan nan nan nan) (side nan nan) ≡ solved zeros
-  pub too_many : solve_of 17 (table one zero⁺ zero⁺ one) (side one one) ≡ record { outcome = TooLarge; x = zeros }
+  pub too_many : solve_of 17 (table one zero⁺ zero⁺ one) (side one one) ≡ Err TooLarge
 
 pub values : Values
 unfolding tab fill_at magnitude_of better pivot_to swap_rows placed less less_row clear_row clear_to is_small column eliminate_to less_known unknown back_to answer solve_of of_bits sub mul div lt ne

@@ -1,46 +1,40 @@
--- Parts of a table as the loops over their places leave them, followed one place further. Assumes nothing.
-use Prim.Native.Nat.{ℕ, ◌+◌, ◌<◌, ◌≤◌}
-use mathlib.Core.Path.{◌≡◌, refl, ◌∙◌}
-use mathlib.Core.List.{List}
+-- Parts of a table as the code leaves them. Assumes nothing.
+use Prim.Native.Nat.{ℕ, ◌+◌, ◌-◌, ◌≤◌}
+use mathlib.Core.Path.{◌≡◌, refl, sym, ap, ◌∙◌}
+use mathlib.Core.List.{List, ◌++◌, append_assoc}
 use native.Mathlib.Omega.{arith}
-use lib.ListN.{length, set}
+use borrow.Rule.Slice.PartMut.{put_mid}
+use lib.ListN.{length, take, drop}
+use lib.Seq.{take-take, take-append-add, drop-drop}
 use lib.Ieee.{Float}
-use Rattle.number.specs.Number.{◌⊖◌, ◌⊗◌}
-use Rattle.number.specs.Table.{◌!◌, fill_at}
-use Rattle.number.proofs.Table.{fill_at_none, fill_at_more, fill_at_long, fill_at_before, fill_at_past, fill_at_set}
-use Rattle.linsolve.specs.Promises.{from, exchange, less_at}
+use Rattle.std.proofs.lemmas.List.{drop-take}
+use Rattle.number.specs.Table.{◌!◌, tab, fill_at}
+use Rattle.number.proofs.Table.{part_tab, front_long, fill_at_rest}
 
-pub exchange_none : (s t : ℕ) (a : List Float) → a ≡ exchange s t 0 a
-unfolding exchange
-exchange_none s t a = fill_at_none t (from a s) a ∙ fill_at_none s (from a t) (fill_at t (from a s) 0 a)
+-- two parts of n places, the one from t on wholly before the one from s on, exchanged between the slices above and below place s
+module _ (s t n : ℕ) (a : List Float) (h : t + n ≤ s) (h' : s + n ≤ length a) where
+  apart : t + n + (s - (t + n)) ≡ s
+  apart = omega arith
 
-pub exchange_long : (s t m : ℕ) (a : List Float) {l : List Float} → t + m ≤ s → s + m ≤ length a
-    → l ≡ exchange s t m a → length l ≡ length a
-unfolding exchange
-exchange_long s t m a h k e =
-    let q : length (fill_at t (from a s) m a) ≡ length a = fill_at_long t (from a s) m a refl (omega arith) in
-    fill_at_long s (from a t) m (fill_at t (from a s) m a) e (omega arith) ∙ q
+  upper_part : take n (drop t (take s a)) ≡ tab (λ j. a ! (t + j)) n
+  upper_part =
+      let q : t + (s - t) ≡ s = omega arith in
+      rw q at (ap (take n) (drop-take t (s - t) a)) ∙ take-take n (s - t) (drop t a) (omega arith) ∙ part_tab a t _ n (omega arith) (λ j _. refl)
 
-module _ (s t j : ℕ) (a : List Float) {l : List Float} (h : t + j < s) (k : s + j < length a) where
-  pub exchange_more : l ≡ exchange s t j a → set (set l (s + j) (l ! (t + j))) (t + j) (l ! (s + j)) ≡ exchange s t (j + 1) a
-  unfolding exchange from
-  exchange_more e =
-      let m = fill_at t (from a s) j a in
-      let long : length m ≡ length a = fill_at_long t _ j a refl (omega arith) in
-      let m-low : m ! (t + j) ≡ a ! (t + j) = fill_at_past t _ j a refl (t + j) (omega arith) (omega arith) in
-      let m-high : m ! (s + j) ≡ a ! (s + j) = fill_at_past t _ j a refl (s + j) (omega arith) (omega arith) in
-      let low : l ! (t + j) ≡ a ! (t + j) = fill_at_before s _ j m e (t + j) h (omega arith) ∙ m-low in
-      let high : l ! (s + j) ≡ a ! (s + j) = fill_at_past s _ j m e (s + j) (omega arith) (omega arith) ∙ m-high in
-      rw (
-        fill_at_more s (from a t) j m e low (omega arith),
-        fill_at_set s (from a t) (j + 1) m (t + j) (l ! (s + j)) h (omega arith),
-        fill_at_more t (from a s) j a refl high (omega arith),
-      )
+  -- the slice above, with the part put there
+  upper_put : (g : ℕ → Float) → put_mid t n (take s a) (tab g n) ≡ take s (fill_at t g n a)
+  unfolding fill_at
+  upper_put g =
+      let d = s - (t + n) in
+      let q : length (take t a ++ tab g n) ≡ t + n = front_long t g n a (omega arith) in
+      let low : take t (take s a) ≡ take t a = take-take t s a (omega arith) in
+      let high : drop n (drop t (take s a)) ≡ take d (drop (t + n) a) = drop-drop n t (take s a) ∙ rw apart at (drop-take (t + n) d a) in
+      rw (low, high, ← append_assoc) (sym (rw (q, apart) at (take-append-add (take t a ++ tab g n) (drop (t + n) a) d)))
 
-  pub less_more : (f : Float) → l ≡ fill_at s (less_at a s t f) j a
-      → set l (s + j) (l ! (s + j) ⊖ f ⊗ l ! (t + j)) ≡ fill_at s (less_at a s t f) (j + 1) a
-  unfolding less_at
-  less_more f e =
-      let low : l ! (t + j) ≡ a ! (t + j) = fill_at_before s _ j a e (t + j) h (omega arith) in
-      let high : l ! (s + j) ≡ a ! (s + j) = fill_at_past s _ j a e (s + j) (omega arith) (omega arith) in
-      fill_at_more s (less_at a s t f) j a e (rw (low, high)) k
+  pub parts_exchanged : {above below u v : List Float} {k : ℕ} → above ≡ take s a → below ≡ drop s a → k ≡ n → u ≡ take n below → v ≡ take k (drop t above)
+      → put_mid t k above u ++ (v ++ drop n below) ≡ fill_at s (λ j. a ! (t + j)) n (fill_at t (λ j. a ! (s + j)) n a)
+  unfolding fill_at
+  parts_exchanged ea eb ek eu ev =
+      let g = λ (j : ℕ). a ! (s + j) in
+      let rest : drop (s + n) (fill_at t g n a) ≡ drop (s + n) a = fill_at_rest t g n a (s + n) (omega arith) (omega arith) in
+      rw (eu, ev, ea, eb, ek, part_tab a s g n h' (λ j _. refl), upper_part, upper_put g, rest, drop-drop, append_assoc (take s (fill_at t g n a)) (tab (λ j. a ! (t + j)) n) (drop (s + n) a))

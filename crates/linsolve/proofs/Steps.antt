@@ -1,22 +1,24 @@
 -- The steps of the code are those of the definition: each law takes what the code knows at a place to what it has to show there. Assumes nothing.
+use Rattle.std.specs.Prelude.{swap, Ok, Err}
 use Prim.Native.Nat.{ℕ, zero, suc, ◌+◌, ◌-◌, ◌*◌, ◌<◌, ◌≤◌}
-use mathlib.Core.Path.{◌≡◌, refl, sym, ap, ◌∙◌}
-use mathlib.Core.Bool.{Bool, true, false}
-use mathlib.Core.List.{List}
+use mathlib.Core.Path.{◌≡◌, refl, sym, ap}
+use mathlib.Core.Bool.{true, false}
+use mathlib.Core.List.{List, [], ◌∷◌}
 use mathlib.Core.Logic.{⊎_elim}
 use native.Mathlib.Numerals.{add-one}
-use native.Mathlib.Nat.{add_assoc, eq-or-lt_of_le, le_of_suc-le-suc, not-suc-le-zero}
+use native.Mathlib.Nat.{eq-or-lt_of_le, le_of_suc-le-suc, not-suc-le-zero}
 use native.Mathlib.Omega.{arith}
-use borrow.Author.Tests.{lt-ltb, le-ltb, le-leb, lt-leb, eq-eqb, ne_eqb}
-use lib.ListN.{length, set, length-set}
-use lib.Ieee.{Float, lt, ne}
-use Rattle.number.specs.Number.{◌≤?◌, ◌⊖◌, ◌⊗◌, ◌⊘◌, zero⁺, magnitude_of}
+use borrow.Author.Tests.{lt-ltb, le-ltb, eq-eqb, ne_eqb}
+use lib.ListN.{length, set}
+use Rattle.std.proofs.lemmas.List.{get_or_default}
+use lib.Ieee.{Float, nan, lt, ne}
+use Rattle.number.specs.Number.{◌⊖◌, ◌⊗◌, ◌⊘◌, zero⁺, magnitude_of}
 use Rattle.number.specs.Table.{◌!◌, cell, fill_at}
-use Rattle.number.proofs.Table.{fill_at_ext, fill_at_long, row_within, row_before}
-use Rattle.linsolve.specs.Solver.{System, system, better, pivot_to, pivot_of, swap_rows, placed, less, less_row, clear_row, clear_to, tiny, cleared, stopped_at, is_small, column, eliminate_to, less_known, unknown, zeros, back_to, answer, solve_of}
-use Rattle.linsolve.specs.Promises.{from, exchange, less_at, Best, Holds, Remains}
-use Rattle.linsolve.specs.declared.Outcome.TheVariants.{Solved, Singular, TooLarge}
-use Rattle.linsolve.proofs.Parts.{exchange_long}
+use Rattle.number.proofs.Table.{fill_at_none, fill_at_more, fill_at_before, fill_at_past, row_within, row_before}
+use Rattle.linsolve.specs.Solver.{System, system, better, pivot_to, pivot_of, swap_rows, placed, less, less_row, clear_row, clear_to, tiny, Elimination, cleared, stopped_at, is_small, column, eliminate_to, less_known, unknown, zeros, back_to, answer, solve_of}
+use Rattle.linsolve.specs.Promises.{Best}
+use Rattle.linsolve.specs.declared.Unsolved.{Unsolved}
+use Rattle.linsolve.specs.declared.Unsolved.TheVariants.{TooLarge}
 
 -- ---- a loop that starts past c has done r - suc c rows or columns when it comes to r
 
@@ -50,103 +52,98 @@ module _ (n : ℕ) (a : List Float) (c : ℕ) where
 
 -- ---- one column
 
-holds : {a b : List Float} → length a ≡ 256 → length b ≡ 16 → Holds (system a b) a b
-holds la lb = record { is = refl; wide = la; high = lb }
+-- std's `swap` of two places is the two stores
+swap_stores : (l : List Float) (i j : ℕ) → i < length l → j < length l → swap l i j ≡ set (set l i (l ! j)) j (l ! i)
+swap_stores [] i j h k = absurd (not-suc-le-zero h)
+swap_stores (d ∷ ys) i j h k = rw (get_or_default (d ∷ ys) i d nan h, get_or_default (d ∷ ys) j d nan k) refl
 
-less_same : (n c r : ℕ) (a : List Float) (f : Float) (j : ℕ) → less_at a (r * n + c) (c * n + c) f j ≡ less n a c r f j
-unfolding less_at less
-less_same n c r a f j = simp add_assoc
+module _ (n c : ℕ) (a b : List Float) where
+  pub swap_is : (i : ℕ) {a' b' : List Float} → length b ≡ 16 → c < n → i < n → n ≤ 16
+      → a' ≡ fill_at (i * n) (cell n a c) n (fill_at (c * n) (cell n a i) n a) → b' ≡ swap b i c → system a' b' ≡ swap_rows n c i (system a b)
+  unfolding swap_rows
+  swap_is i lb hc hi h e e' = rw (e, e', swap_stores b i c (omega arith) (omega arith))
 
-module _ (n c : ℕ) (a b : List Float) (la : length a ≡ 256) (lb : length b ≡ 16) where
-  pub swap_is : (i : ℕ) {a' : List Float} → n ≤ 16 → c < i → i < n → a' ≡ exchange (i * n) (c * n) n a
-      → Holds (swap_rows n c i (system a b)) a' (set (set b i (b ! c)) c (b ! i))
-  unfolding swap_rows exchange from
-  swap_is i h hc hi e =
-      record {
-        is = rw e;
-        wide = exchange_long (i * n) (c * n) n a (row_before n c i hc) (omega (arith, row_within n i h hi)) e ∙ la;
-        high = simp length-set lb;
-      }
+  module _ (r : ℕ) (f : Float) where
+    pub less_first : a ≡ fill_at (r * n + c) (less n a c r f) (c - c) a
+    less_first = let e : c - c ≡ 0 = omega arith in rw e (fill_at_none _ _ a)
 
-  pub less_is : (r : ℕ) (f : Float) {a' : List Float} → n ≤ 16 → c < r → r < n
-      → a' ≡ fill_at (r * n + c) (less_at a (r * n + c) (c * n + c) f) (n - c) a
-      → Holds (less_row n c r f (system a b)) a' (set b r (b ! r ⊖ f ⊗ b ! c))
-  unfolding less_row
-  less_is r f h hc hr e =
-      record {
-        is = rw (e, fill_at_ext (r * n + c) _ (n - c) a (less n a c r f) (λ j _. less_same n c r a f j));
-        wide = fill_at_long (r * n + c) _ (n - c) a e (omega (arith, row_within n r h hr)) ∙ la;
-        high = simp length-set lb;
-      }
+    pub less_more : (j : ℕ) {l : List Float} → n ≤ 16 → length a ≡ 256 → c < r → r < n → c ≤ j → j < n → l ≡ fill_at (r * n + c) (less n a c r f) (j - c) a
+        → set l (r * n + j) (l ! (r * n + j) ⊖ f ⊗ l ! (c * n + j)) ≡ fill_at (r * n + c) (less n a c r f) (j + 1 - c) a
+    unfolding less
+    less_more j {l} h la hc hr low high e =
+        let within = row_within n r h hr in
+        let apart = row_before n c r hc in
+        let d = j - c in
+        let here : r * n + c + d ≡ r * n + j = omega arith in
+        let next : j + 1 - c ≡ d + 1 = omega arith in
+        let column : c + d ≡ j = omega arith in
+        let upper : l ! (c * n + j) ≡ a ! (c * n + j) = fill_at_before _ _ d a e _ (omega (arith, apart)) (omega (arith, within)) in
+        let lower : l ! (r * n + j) ≡ a ! (r * n + j) = fill_at_past _ _ d a e _ (omega arith) (omega (arith, within)) in
+        let v = l ! (r * n + j) ⊖ f ⊗ l ! (c * n + j) in
+        let is : v ≡ less n a c r f d = rw (column, upper, lower) in
+        rw next (rw here at (fill_at_more _ (less n a c r f) d a e is (omega (arith, within))))
 
-  pub placed_swap : (i : ℕ) {a' b' : List Float} → i ≡ pivot_of n a c → (i ≡ c → ⊥) → Holds (swap_rows n c i (system a b)) a' b'
-      → Holds (placed n c (system a b)) a' b'
+    pub less_is : {l : List Float} → l ≡ fill_at (r * n + c) (less n a c r f) (n - c) a → system l (set b r (b ! r ⊖ f ⊗ b ! c)) ≡ less_row n c r f (system a b)
+    unfolding less_row
+    less_is e = rw e
+
+  pub placed_swap : (i : ℕ) {S : System} → i ≡ pivot_of n a c → (i ≡ c → ⊥) → S ≡ swap_rows n c i (system a b) → S ≡ placed n c (system a b)
   unfolding placed
   placed_swap i e q o = rw (← e, ne_eqb i c q) o
 
-  pub placed_same : (i : ℕ) → i ≡ pivot_of n a c → i ≡ c → Holds (placed n c (system a b)) a b
+  pub placed_same : (i : ℕ) → i ≡ pivot_of n a c → i ≡ c → system a b ≡ placed n c (system a b)
   unfolding placed
-  placed_same i e q = rw (← e, eq-eqb i c q) (holds la lb)
+  placed_same i e q = rw (← e, eq-eqb i c q)
 
   module _ (r : ℕ) {x y : Float} (ex : x ≡ cell n a r c) (ey : y ≡ cell n a c c) where
-    pub clear_yes : {a' b' : List Float} → ne (x ⊘ y) zero⁺ ≡ true → Holds (less_row n c r (x ⊘ y) (system a b)) a' b'
-        → Holds (clear_row n c r (system a b)) a' b'
+    pub clear_yes : {S : System} → ne (x ⊘ y) zero⁺ ≡ true → S ≡ less_row n c r (x ⊘ y) (system a b) → S ≡ clear_row n c r (system a b)
     unfolding clear_row
     clear_yes t o = rw (← ex, ← ey, t) o
 
-    pub clear_no : ne (x ⊘ y) zero⁺ ≡ false → Holds (clear_row n c r (system a b)) a b
+    pub clear_no : ne (x ⊘ y) zero⁺ ≡ false → system a b ≡ clear_row n c r (system a b)
     unfolding clear_row
-    clear_no t = rw (← ex, ← ey, t) (holds la lb)
+    clear_no t = rw (← ex, ← ey, t)
 
-  pub clear_first : Holds (clear_to n c (system a b) (c + 1 - suc c)) a b
+  pub clear_first : system a b ≡ clear_to n c (system a b) (c + 1 - suc c)
   unfolding clear_to
-  clear_first = rw none_done (holds la lb)
+  clear_first = rw none_done
 
   module _ {i : ℕ} {m : Float} (p : Best n a c n i m) where
-    pub column_stops : lt m tiny ≡ true → Remains (column n c (system a b)) false c a b
+    pub column_stops : lt m tiny ≡ true → stopped_at c ≡ column n c (system a b)
     unfolding column is_small
-    column_stops t = record { is = rw (← p.row, ← p.magnitude, t); wide = la; high = lb }
+    column_stops t = rw (← p.row, ← p.magnitude, t)
 
-    pub column_goes : {a' b' a'' b'' : List Float} → lt m tiny ≡ false → Holds (placed n c (system a b)) a' b'
-        → Holds (clear_to n c (system a' b') (n - suc c)) a'' b'' → Remains (column n c (system a b)) true c a'' b''
+    pub column_goes : {S T : System} → lt m tiny ≡ false → S ≡ placed n c (system a b) → T ≡ clear_to n c S (n - suc c)
+        → cleared T ≡ column n c (system a b)
     unfolding column is_small
-    column_goes t o o' = record { is = rw (← p.row, ← p.magnitude, t, ← o.is) (ap cleared o'.is); wide = o'.wide; high = o'.high }
+    column_goes t o o' = rw (← p.row, ← p.magnitude, t, ← o) (ap cleared o')
 
-pub clear_more : (n c r : ℕ) (S : System) {a b a' b' : List Float} → c < r → Holds (clear_to n c S (r - suc c)) a b
-    → Holds (clear_row n c r (system a b)) a' b' → Holds (clear_to n c S (r + 1 - suc c)) a' b'
+pub clear_more : (n c r : ℕ) (S : System) {T U : System} → c < r → T ≡ clear_to n c S (r - suc c) → U ≡ clear_row n c r T
+    → U ≡ clear_to n c S (r + 1 - suc c)
 unfolding clear_to
-clear_more n c r S h o o' = rw (one_more, which_next, ← o.is) o'
+clear_more n c r S h o o' = rw (one_more, which_next, ← o) o'
 
 -- ---- all columns
 
 -- stopped at a column, whatever comes after it
-pub stays_stopped : (n : ℕ) (S : System) (c d : ℕ) → c < d → eliminate_to n S (suc c) ≡ stopped_at c → eliminate_to n S d ≡ stopped_at c
+pub stays_stopped : (n : ℕ) (S : System) {e : Unsolved} (c d : ℕ) → c < d → eliminate_to n S (suc c) ≡ Err e → eliminate_to n S d ≡ Err e
 unfolding eliminate_to
 stays_stopped n S c zero h e = absurd (not-suc-le-zero h)
 stays_stopped n S c (suc d) h e = ⊎_elim (λ q. rw (← q) e) (λ l. rw (stays_stopped n S c d l e)) (eq-or-lt_of_le (le_of_suc-le-suc h))
 
-pub columns_first : (n : ℕ) (a b : List Float) → length a ≡ 256 → length b ≡ 16 → Remains (eliminate_to n (system a b) 0) true 0 a b
+pub columns_first : (n : ℕ) (S : System) → cleared S ≡ eliminate_to n S 0
 unfolding eliminate_to
-columns_first n a b la lb = record { is = refl; wide = la; high = lb }
+columns_first n S = refl
 
--- after c columns the next is done, and t says whether its pivot passed
-module _ (n : ℕ) (S : System) (c : ℕ) {a b a' b' : List Float} {t : Bool} (o : Remains (eliminate_to n S c) true c a b)
-    (o' : Remains (column n c (system a b)) t c a' b') where
-  pub columns_more : t ≡ true → Remains (eliminate_to n S (c + 1)) true (c + 1) a' b'
+-- after c columns the next is done
+module _ (n : ℕ) (S : System) (c : ℕ) {T : System} (o : cleared T ≡ eliminate_to n S c) where
+  pub columns_more : {E : Elimination} → E ≡ column n c T → E ≡ eliminate_to n S (c + 1)
   unfolding eliminate_to
-  columns_more q = record { is = rw (add-one, ← o.is) (rw q at o'.is); wide = o'.wide; high = o'.high }
+  columns_more o' = rw (add-one, ← o) o'
 
-  pub columns_stop : t ≡ false → c < n → Remains (eliminate_to n S n) (n ≤? c) c a' b'
+  pub columns_stop : {e : Unsolved} → Err e ≡ column n c T → c < n → Err e ≡ eliminate_to n S n
   unfolding eliminate_to
-  columns_stop q h =
-      let e : eliminate_to n S (suc c) ≡ stopped_at c = rw (← o.is) (sym (rw q at o'.is)) in
-      record { is = rw (lt-leb n c h) (sym (stays_stopped n S c n h e)); wide = o'.wide; high = o'.high }
-
-pub columns_all : (n : ℕ) (S : System) (c : ℕ) {a b : List Float} → c ≤ n → n ≤ c → Remains (eliminate_to n S c) true c a b
-    → Remains (eliminate_to n S n) (n ≤? c) c a b
-columns_all n S c h h' o =
-    let e : c ≡ n = omega arith in
-    record { is = rw (le-leb n c h') (o.is ∙ ap (eliminate_to n S) e); wide = o.wide; high = o.high }
+  columns_stop o' h = sym (stays_stopped n S c n h (rw (← o) (sym o')))
 
 -- ---- back-substitution
 
@@ -175,15 +172,15 @@ back_more n S x r h h' e ev ey =
 
 -- ---- the whole
 
-pub large_is : (n : ℕ) (a b : List Float) → 16 < n → record { outcome = TooLarge; x = zeros } ≡ solve_of n a b
+pub large_is : (n : ℕ) (a b : List Float) → 16 < n → Err TooLarge ≡ solve_of n a b
 unfolding solve_of
 large_is n a b h = rw (lt-ltb 16 n h)
 
-module _ (n : ℕ) (a b : List Float) {a' b' : List Float} {c : ℕ} (h : n ≤ 16) (o : Remains (eliminate_to n (system a b) n) (n ≤? c) c a' b') where
-  pub solved_is : {x : List Float} → n ≤ c → x ≡ back_to n (system a' b') n → record { outcome = Solved; x = x } ≡ solve_of n a b
+module _ (n : ℕ) (a b : List Float) (h : n ≤ 16) where
+  pub solved_is : {S : System} {x : List Float} → cleared S ≡ eliminate_to n (system a b) n → x ≡ back_to n S n → Ok x ≡ solve_of n a b
   unfolding solve_of answer
-  solved_is q e = rw (le-ltb 16 n h, ← o.is, le-leb n c q, e)
+  solved_is o e = rw (le-ltb 16 n h, ← o, e)
 
-  pub singular_is : c < n → record { outcome = Singular c; x = zeros } ≡ solve_of n a b
+  pub unsolved_is : {e : Unsolved} → Err e ≡ eliminate_to n (system a b) n → Err e ≡ solve_of n a b
   unfolding solve_of answer
-  singular_is q = rw (le-ltb 16 n h, ← o.is, lt-leb n c q)
+  unsolved_is o = rw (le-ltb 16 n h, ← o)

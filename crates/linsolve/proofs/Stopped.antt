@@ -1,5 +1,5 @@
 -- The column at which elimination stops is the first whose pivot is too small, and where there is such a column it stops there. Assumes nothing.
-use Rattle.std.specs.Prelude.{if◌then◌else◌}
+use Rattle.std.specs.Prelude.{if◌then◌else◌, Ok, Err}
 use Prim.Native.Nat.{ℕ, zero, suc, ◌≤◌}
 use mathlib.Core.Path.{◌≡◌, refl, subst, ◌∙◌}
 use mathlib.Core.Bool.{Bool, true, false}
@@ -8,8 +8,8 @@ use native.Mathlib.Omega.{arith}
 use borrow.Author.Tests.{le-ltb}
 use lib.Ieee.{Float}
 use Rattle.number.specs.Number.{◌<?◌}
-use Rattle.linsolve.specs.Solver.{System, system, Elimination, cleared, stopped_at, is_small, column, and_then, eliminate_to, zeros, answer, solve_of, FirstSmall}
-use Rattle.linsolve.specs.declared.Outcome.TheVariants.{Singular, TooLarge}
+use Rattle.linsolve.specs.Solver.{System, system, Elimination, cleared, stopped_at, is_small, column, and_then, eliminate_to, answer, solve_of, FirstSmall}
+use Rattle.linsolve.specs.declared.Unsolved.TheVariants.{Singular, TooLarge}
 use Rattle.linsolve.proofs.Steps.{stays_stopped}
 
 module _ (n : ℕ) (S : System) where
@@ -25,8 +25,8 @@ module _ (n : ℕ) (S : System) where
   one_more : (d c : ℕ) → (eliminate_to n S d ≡ stopped_at c → FirstSmall n S d c) → (E : Elimination) → eliminate_to n S d ≡ E
       → and_then E (column n d) ≡ stopped_at c
       → FirstSmall n S (suc d) c
-  one_more d c law (cleared T) w e = here d c T (is_small n d T) refl w e
-  one_more d c law (stopped_at x) w e =
+  one_more d c law (Ok T) w e = here d c T (is_small n d T) refl w e
+  one_more d c law (Err x) w e =
       let o = law (w ∙ e) in record { within = omega (arith, o.within); left = o.left; before = o.before; small = o.small }
 
   pub stopped_first : (d c : ℕ) → eliminate_to n S d ≡ stopped_at c → FirstSmall n S d c
@@ -41,21 +41,20 @@ module _ (n : ℕ) (S : System) where
 -- ---- the same of what the solver answers
 
 module _ (n c : ℕ) where
-  answer_named : (E : Elimination) → (answer n E).outcome ≡ Singular c → E ≡ stopped_at c
+  answer_named : (E : Elimination) → answer n E ≡ Err (Singular c) → E ≡ stopped_at c
   unfolding answer
-  answer_named (cleared S) e = let z : ◌≡◌ {A = ℕ} 0 1 = cc in absurd (omega arith)
-  answer_named (stopped_at x) e = cc
+  answer_named (Ok S) e = let z : ◌≡◌ {A = ℕ} 0 1 = cc in absurd (omega arith)
+  answer_named (Err x) e = cc
 
   module _ (a b : List Float) where
-    outcome_named : (t : Bool) → (if t then record { outcome = TooLarge; x = zeros } else answer n (eliminate_to n (system a b) n)).outcome ≡ Singular c
-        → FirstSmall n (system a b) n c
+    outcome_named : (t : Bool) → (if t then Err TooLarge else answer n (eliminate_to n (system a b) n)) ≡ Err (Singular c) → FirstSmall n (system a b) n c
     outcome_named true e = let z : ◌≡◌ {A = ℕ} 0 1 = cc in absurd (omega arith)
     outcome_named false e = stopped_first n (system a b) n c (answer_named (eliminate_to n (system a b) n) e)
 
-    pub solve_named : (solve_of n a b).outcome ≡ Singular c → FirstSmall n (system a b) n c
+    pub solve_named : solve_of n a b ≡ Err (Singular c) → FirstSmall n (system a b) n c
     unfolding solve_of
     solve_named e = outcome_named (16 <? n) e
 
-    pub solve_names : n ≤ 16 → FirstSmall n (system a b) n c → (solve_of n a b).outcome ≡ Singular c
+    pub solve_names : n ≤ 16 → FirstSmall n (system a b) n c → solve_of n a b ≡ Err (Singular c)
     unfolding solve_of answer
     solve_names h o = rw (le-ltb 16 n h, first_stopped n (system a b) n c o)

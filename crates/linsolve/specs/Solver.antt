@@ -2,12 +2,12 @@
 -- After Golub and Van Loan, Matrix Computations, 4th edition: algorithm 3.4.1 (elimination with partial pivoting) and 3.1.2 (back-substitution by
 -- rows); the order of operations is that of `solve` in linsolve.rs, and document 01, "Solver" and refusal 21, and document 02, Q-4.
 -- c is the column that is cleared and the row its pivot goes to, i the row where the pivot is found, r any other row; d counts those done.
-use Rattle.std.specs.Prelude.{ℕ, zero, suc, ◌+◌, ◌-◌, ◌*◌, ◌<◌, ◌≡◌, Bool, true, List, set, replicate, Float, if◌then◌else◌}
+use Rattle.std.specs.Prelude.{ℕ, zero, suc, ◌+◌, ◌-◌, ◌*◌, ◌<◌, ◌≡◌, Bool, true, List, set, replicate, Float, if◌then◌else◌, Result, Ok, Err}
 use Rattle.std.specs.Float.Ieee.{lt, ne}
 use Rattle.number.specs.Number.{◌<?◌, ◌=?◌, ◌⊖◌, ◌⊗◌, ◌⊘◌, float, zero⁺, magnitude_of}
 use Rattle.number.specs.Table.{◌!◌, cell, fill_at}
-use Rattle.linsolve.specs.declared.Solution.{Solution}
-use Rattle.linsolve.specs.declared.Outcome.TheVariants.{Solved, Singular, TooLarge}
+use Rattle.linsolve.specs.declared.Unsolved.{Unsolved}
+use Rattle.linsolve.specs.declared.Unsolved.TheVariants.{Singular, TooLarge}
 
 -- the table and the right-hand side
 pub record System : Type 0 where
@@ -72,9 +72,14 @@ abbrev pub tiny : Float
 tiny = float 0x01A5_6E1F_C2F8_F359
 
 -- what elimination comes to: the system with its columns cleared, or the column at which it stopped
-pub data Elimination : Type 0 where
-  cleared : System → Elimination
-  stopped_at : ℕ → Elimination
+abbrev pub Elimination : Type 0
+Elimination = Result System Unsolved
+
+pattern abbrev pub cleared : System → Elimination
+cleared S = Ok S
+
+pattern abbrev pub stopped_at : ℕ → Elimination
+stopped_at c = Err (Singular c)
 
 -- whether the pivot of column c has a magnitude below tiny: a NaN's is not, and passes
 unfoldable pub is_small : ℕ → ℕ → System → Bool
@@ -86,8 +91,8 @@ column n c S = if is_small n c S then stopped_at c else cleared (clear_to n c (p
 
 -- once stopped, no other column is looked at
 abbrev pub and_then : Elimination → (System → Elimination) → Elimination
-and_then (cleared S) next = next S
-and_then (stopped_at c) next = stopped_at c
+and_then (Ok S) next = next S
+and_then (Err e) next = Err e
 
 -- the first c columns, one after the other: so the first whose pivot is too small is the one that is named
 unfoldable pub eliminate_to : ℕ → System → ℕ → Elimination
@@ -115,14 +120,18 @@ back_to n S (suc d) = set (back_to n S d) (n - suc d) (unknown n S (back_to n S 
 
 -- ---- the whole
 
-unfoldable pub answer : ℕ → Elimination → Solution
-answer n (cleared S) = record { outcome = Solved; x = back_to n S n }
-answer n (stopped_at c) = record { outcome = Singular c; x = zeros }
+unfoldable pub answer : ℕ → Elimination → Result (List Float) Unsolved
+answer n (Ok S) = Ok (back_to n S n)
+answer n (Err e) = Err e
 
 -- a x = b, for n equations. A table of 256 places holds no more than 16 rows and columns
-unfoldable pub solve_of : ℕ → List Float → List Float → Solution
-solve_of n a b =
-    if 16 <? n then record { outcome = TooLarge; x = zeros } else answer n (eliminate_to n (system a b) n)
+unfoldable pub solve_of : ℕ → List Float → List Float → Result (List Float) Unsolved
+solve_of n a b = if 16 <? n then Err TooLarge else answer n (eliminate_to n (system a b) n)
+
+-- the column that a refusal names: a table too large has none, and 0 stands for it
+abbrev pub column_of : Unsolved → ℕ
+column_of (Singular c) = c
+column_of TooLarge = 0
 
 -- ---- what the column of a `Singular` says
 

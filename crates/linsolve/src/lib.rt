@@ -1,24 +1,30 @@
 // Small linear systems, by Gaussian elimination with partial pivoting and back-substitution.
 #![tactic(auto)]
 
-ghost use Rattle.std.specs.Prelude.{◌≡◌, suc, ◌+◌, ◌-◌, ◌<◌, ◌≤◌, length};
-ghost use Rattle.number.specs.Number.{◌≤?◌, magnitude_of};
-ghost use Rattle.number.specs.Table.{cell, fill_at};
-ghost use Rattle.linsolve.specs.Solver.{system, pivot_of, swap_rows, placed, less_row, clear_row, clear_to, column, eliminate_to, less_known, back_to, solve_of};
-ghost use Rattle.linsolve.specs.Promises.{exchange, less_at, Best, Holds, Remains};
+ghost use Rattle.std.specs.Prelude.{◌≡◌, suc, ◌+◌, ◌-◌, ◌*◌, ◌<◌, ◌≤◌};
+ghost use Rattle.number.specs.Number.{magnitude_of};
+ghost use Rattle.number.specs.Table.{cell};
+ghost use Rattle.linsolve.specs.Solver.{column_of, system, pivot_of, swap_rows, placed, less_row, clear_row, clear_to, column, eliminate_to, less_known, back_to, solve_of};
+ghost use Rattle.linsolve.specs.Promises.{leaves, Best};
 
-#[derive(Clone, Copy)]
-pub enum Outcome {
-    Solved,
+// Why a system has no answer.
+#[derive(Clone, Copy, Debug, PartialEq, Eq)]
+pub enum Unsolved {
     // the column at which elimination stopped, counted from 0, so below 16
     Singular(u8),
     TooLarge,
 }
 
-#[derive(Clone, Copy)]
-pub struct Solution {
-    pub outcome: Outcome,
-    pub x: [f64; 16],
+impl Unsolved {
+    // The column that a refusal names: a table too large has none, and 0 stands for it.
+    pub fn column(self) -> u8
+        ensures { result ≡ column_of self }
+    {
+        match self {
+            Unsolved::Singular(c) => c,
+            Unsolved::TooLarge => 0,
+        }
+    }
 }
 
 // The row where a column's pivot is found, and the pivot's magnitude.
@@ -27,6 +33,8 @@ struct Pivot {
     row: usize,
     magnitude: f64,
 }
+
+// Table, side and count stay three parameters: of a field that split_at_mut cuts no proof here can name what is written back.
 
 // Row i, column j of a table of n columns.
 fn cell_of(a: &[f64; 256], n: usize, i: usize, j: usize) -> f64
@@ -48,69 +56,33 @@ fn pivot_of(a: &[f64; 256], n: usize, c: usize) -> Pivot
     requires { (n ≤ 16) × (c < n) }
     ensures { Best n a.now c n result.row result.magnitude }
 {
-    let mut i = c;
-    let mut best = magnitude_at(a, n, c, c);
-    let mut r = c + 1;
-    while r < n {
+    let mut row = c;
+    let mut magnitude = magnitude_at(a, n, c, c);
+    for r in c + 1..n {
         let m = magnitude_at(a, n, r, c);
         // strict, so that the first of equals and a NaN on the diagonal stay
-        if best < m {
-            best = m;
-            i = r;
+        if magnitude < m {
+            magnitude = m;
+            row = r;
         }
-        r += 1;
     }
-    Pivot {
-        row: i,
-        magnitude: best,
-    }
-}
-
-// The m places from s on and those from t on exchanged.
-fn exchange_parts(a: &mut [f64; 256], s: usize, t: usize, m: usize)
-    requires { (t + m ≤ s) × (s + m ≤ 256) × (length a.old ≡ 256) }
-    ensures { a.new ≡ exchange s t m a.old }
-{
-    let mut j = 0;
-    while j < m {
-        let u = a[s + j];
-        let v = a[t + j];
-        a[s + j] = v;
-        a[t + j] = u;
-        j += 1;
-    }
-}
-
-// The m places from s on, each less f times its counterpart from t on.
-fn less_part(a: &mut [f64; 256], s: usize, t: usize, m: usize, f: f64)
-    requires { (t + m ≤ s) × (s + m ≤ 256) × (length a.old ≡ 256) }
-    ensures { a.new ≡ fill_at s (less_at a.old s t f) m a.old }
-{
-    let mut j = 0;
-    while j < m {
-        let u = a[s + j];
-        let v = a[t + j];
-        a[s + j] = u - f * v;
-        j += 1;
-    }
+    Pivot { row, magnitude }
 }
 
 // Rows c and i exchanged.
 fn swap_rows(a: &mut [f64; 256], b: &mut [f64; 16], n: usize, c: usize, i: usize)
-    requires { (n ≤ 16) × (c < i) × (i < n) × (length a.old ≡ 256) × (length b.old ≡ 16) }
-    ensures { Holds (swap_rows n c i (system a.old b.old)) a.new b.new }
+    requires { (n ≤ 16) × (c < i) × (i < n) }
+    ensures { system a.new b.new ≡ swap_rows n c i (system a.old b.old) }
 {
-    exchange_parts(a, i * n, c * n, n);
-    let u = b[i];
-    let v = b[c];
-    b[i] = v;
-    b[c] = u;
+    let (above, below) = a.split_at_mut(i * n);
+    above[c * n..c * n + n].swap_with_slice(&mut below[..n]);
+    b.swap(i, c);
 }
 
 // The pivot's row i brought to the diagonal.
 fn place(a: &mut [f64; 256], b: &mut [f64; 16], n: usize, c: usize, i: usize)
-    requires { (n ≤ 16) × (c ≤ i) × (i < n) × (length a.old ≡ 256) × (length b.old ≡ 16) × (i ≡ pivot_of n a.old c) }
-    ensures { Holds (placed n c (system a.old b.old)) a.new b.new }
+    requires { (n ≤ 16) × (c ≤ i) × (i < n) × (i ≡ pivot_of n a.old c) }
+    ensures { system a.new b.new ≡ placed n c (system a.old b.old) }
 {
     if i != c {
         swap_rows(a, b, n, c, i);
@@ -119,19 +91,20 @@ fn place(a: &mut [f64; 256], b: &mut [f64; 16], n: usize, c: usize, i: usize)
 
 // Row r less f times row c, from column c on.
 fn less_row(a: &mut [f64; 256], b: &mut [f64; 16], n: usize, c: usize, r: usize, f: f64)
-    requires { (n ≤ 16) × (c < r) × (r < n) × (length a.old ≡ 256) × (length b.old ≡ 16) }
-    ensures { Holds (less_row n c r f (system a.old b.old)) a.new b.new }
+    requires { (n ≤ 16) × (c < r) × (r < n) }
+    ensures { system a.new b.new ≡ less_row n c r f (system a.old b.old) }
 {
-    less_part(a, r * n + c, c * n + c, n - c, f);
-    let u = b[r];
-    let v = b[c];
-    b[r] = u - f * v;
+    // by index: of a zip over iter_mut no proof here can name what its writes leave
+    for j in c..n {
+        a[r * n + j] = a[r * n + j] - f * a[c * n + j];
+    }
+    b[r] = b[r] - f * b[c];
 }
 
 // Row r with column c cleared.
 fn clear_row(a: &mut [f64; 256], b: &mut [f64; 16], n: usize, c: usize, r: usize)
-    requires { (n ≤ 16) × (c < r) × (r < n) × (length a.old ≡ 256) × (length b.old ≡ 16) }
-    ensures { Holds (clear_row n c r (system a.old b.old)) a.new b.new }
+    requires { (n ≤ 16) × (c < r) × (r < n) }
+    ensures { system a.new b.new ≡ clear_row n c r (system a.old b.old) }
 {
     let f = cell_of(a, n, r, c) / cell_of(a, n, c, c);
     // zero times an infinity would leave a NaN
@@ -142,45 +115,43 @@ fn clear_row(a: &mut [f64; 256], b: &mut [f64; 16], n: usize, c: usize, r: usize
 
 // Column c cleared below the diagonal.
 fn clear_below(a: &mut [f64; 256], b: &mut [f64; 16], n: usize, c: usize)
-    requires { (n ≤ 16) × (c < n) × (length a.old ≡ 256) × (length b.old ≡ 16) }
-    ensures { Holds (clear_to n c (system a.old b.old) (n - suc c)) a.new b.new }
+    requires { (n ≤ 16) × (c < n) }
+    ensures { system a.new b.new ≡ clear_to n c (system a.old b.old) (n - suc c) }
 {
-    let mut r = c + 1;
-    while r < n {
+    for r in c + 1..n {
         clear_row(a, b, n, c, r);
-        r += 1;
     }
 }
 
-// Column c done; false where its pivot is too small.
-fn eliminate_column(a: &mut [f64; 256], b: &mut [f64; 16], n: usize, c: usize) -> bool
-    requires { (n ≤ 16) × (c < n) × (length a.old ≡ 256) × (length b.old ≡ 16) }
-    ensures { Remains (column n c (system a.old b.old)) result c a.new b.new }
+// Column c done, or refused where its pivot is too small.
+fn eliminate_column(
+    a: &mut [f64; 256],
+    b: &mut [f64; 16],
+    n: usize,
+    c: usize,
+) -> Result<(), Unsolved>
+    requires { (n ≤ 16) × (c < n) }
+    ensures { leaves result (system a.new b.new) ≡ column n c (system a.old b.old) }
 {
     let p = pivot_of(a, n, c);
     // a NaN is not below, and passes
     if p.magnitude < 1e-300 {
-        return false;
+        return Err(Unsolved::Singular(c as u8));
     }
     place(a, b, n, c, p.row);
     clear_below(a, b, n, c);
-    true
+    Ok(())
 }
 
-// The number of columns done: all n, or those before the first whose pivot is too small, which has this number.
-fn eliminate(a: &mut [f64; 256], b: &mut [f64; 16], n: usize) -> usize
-    requires { (n ≤ 16) × (length a.old ≡ 256) × (length b.old ≡ 16) }
-    ensures { Remains (eliminate_to n (system a.old b.old) n) (n ≤? result) result a.new b.new }
+// All columns, one after the other, up to the first whose pivot is too small.
+fn eliminate(a: &mut [f64; 256], b: &mut [f64; 16], n: usize) -> Result<(), Unsolved>
+    requires { n ≤ 16 }
+    ensures { leaves result (system a.new b.new) ≡ eliminate_to n (system a.old b.old) n }
 {
-    let mut c = 0;
-    while c < n {
-        if eliminate_column(a, b, n, c) {
-            c += 1;
-        } else {
-            return c;
-        }
+    for c in 0..n {
+        eliminate_column(a, b, n, c)?;
     }
-    c
+    Ok(())
 }
 
 // The right-hand side of row r less what the unknowns after r take.
@@ -189,10 +160,9 @@ fn less_known(a: &[f64; 256], b: &[f64; 16], x: &[f64; 16], n: usize, r: usize) 
     ensures { result ≡ less_known n (system a.now b.now) x.now r (n - suc r) }
 {
     let mut rest = b[r];
-    let mut j = r + 1;
-    while j < n {
-        rest = rest - cell_of(a, n, r, j) * x[j];
-        j += 1;
+    // an index: it names the unknown and the cell of the table
+    for j in r + 1..n {
+        rest -= cell_of(a, n, r, j) * x[j];
     }
     rest
 }
@@ -203,36 +173,20 @@ fn back_substitute(a: &[f64; 256], b: &[f64; 16], n: usize) -> [f64; 16]
     ensures { result ≡ back_to n (system a.now b.now) n }
 {
     let mut x = [0.0; 16];
-    let mut r = n;
-    while 0 < r {
-        r -= 1;
-        let v = less_known(a, b, &x, n, r) / cell_of(a, n, r, r);
-        x[r] = v;
+    for r in (0..n).rev() {
+        x[r] = less_known(a, b, &x, n, r) / cell_of(a, n, r, r);
     }
     x
 }
 
 // a x = b, where a is a table of n rows and columns.
-pub fn solve(mut a: [f64; 256], mut b: [f64; 16], n: usize) -> Solution
+pub fn solve(mut a: [f64; 256], mut b: [f64; 16], n: usize) -> Result<[f64; 16], Unsolved>
     ensures { result ≡ solve_of n a b }
 {
     // 256 places hold no larger table
     if n > 16 {
-        return Solution {
-            outcome: Outcome::TooLarge,
-            x: [0.0; 16],
-        };
+        return Err(Unsolved::TooLarge);
     }
-    let done = eliminate(&mut a, &mut b, n);
-    if done < n {
-        return Solution {
-            outcome: Outcome::Singular(done as u8),
-            x: [0.0; 16],
-        };
-    }
-    let x = back_substitute(&a, &b, n);
-    Solution {
-        outcome: Outcome::Solved,
-        x,
-    }
+    eliminate(&mut a, &mut b, n)?;
+    Ok(back_substitute(&a, &b, n))
 }

@@ -118,10 +118,10 @@ fn log_normal(b: u64, base: u32) -> f64
 pub fn log(x: f64) -> f64
     ensures { result ≡ log_of x }
 {
-    if x != x {
+    if x.is_nan() {
         return x + x;
     }
-    let mut b = f64::to_bits(x);
+    let mut b = x.to_bits();
     // 54 where x is subnormal and was multiplied by 2 ^ 54
     let mut scaled = 0;
     // one test sets apart all that is no normal number above zero

@@ -1,214 +1,138 @@
 // The program msar: a Markov-switching autoregression on a series, by a model, both from files. docs/MODEL.md has the files' grammar.
 #![tactic(auto)]
 
-ghost use Rattle.std.specs.Prelude.{◌≡◌, length};
-
 mod commands;
 
+use arrayvec::ArrayVec;
 use host_io::EprintBytes;
-use msar_args::{Command, Options};
-use msar_files::keep::Layout;
+use msar_args::{Call, Command, Options};
+use msar_files::csv::Columns;
+use msar_files::model::Own;
 use msar_files::opened;
-use params::MsarParams;
-use spec::MsarSpec;
-use std::io::{Input, Read};
+use msar_files::readings::Readings;
+use std::io::Input;
 use std::rt::{Env, Files};
+use text_model::Model;
+
+// The word of the command line with this number; empty where none is given.
+fn word(rt: &impl Env, i: Option<usize>) -> ArrayVec<u8, 4096> {
+    let mut word = ArrayVec::new();
+    if let Some(i) = i {
+        let mut bytes = host_io::buffer();
+        let n = host_io::arg(rt, i, &mut bytes);
+        let _ = word.try_extend_from_slice(&bytes[..n]);
+    }
+    word
+}
 
 // ---- on a series
 
-// One reading more than a call takes.
-fn unread() -> [f64; 4097]
-    ensures { 4097 ≡ length result }
-{
-    [0.0; 4097]
-}
-
-// The lines of the readings.
-fn no_lines() -> [u64; 4097]
-    ensures { 4097 ≡ length result }
-{
-    [0; 4097]
-}
-
-// 64 bytes for the kept cell of each reading, and for the heading.
-fn no_texts() -> [u8; 262272]
-    ensures { 262272 ≡ length result }
-{
-    [0; 262272]
-}
-
-fn layout_of(o: Options) -> Layout {
-    let heading = o.heading;
-    Layout {
-        csv: o.column != 0,
-        heading,
+// How the file's columns are asked for, by these words, if it has columns.
+fn columns_of<'a>(o: Options, name: &'a [u8], kept: &'a [u8]) -> Option<Columns<'a>> {
+    o.column?;
+    Some(Columns {
+        name,
+        kept: o.keep.map(|_| kept),
         separator: o.separator,
-        separator_given: o.separator_given,
-        keeps: o.keep != 0,
-    }
+        heading: o.heading,
+    })
 }
 
 // The readings of the file, and what the command makes of them.
-fn with_readings(
-    rt: &(impl Print + EprintBytes),
-    o: Options,
-    s: MsarSpec,
-    q: MsarParams,
-    own: &[u8],
-    input: &mut impl Read,
-    path: &[u8],
-    name: &[u8],
-    kept: &[u8],
-) {
-    let mut series = unread();
-    let mut numbers = no_lines();
-    let mut texts = no_texts();
-    let reading = msar_files::series::read(
-        rt,
-        input,
-        path,
-        layout_of(o),
-        name,
-        kept,
-        &mut series,
-        &mut numbers,
-        &mut texts,
-    );
-    if reading.good {
-        let held = text_words::least(reading.count, 4097);
-        commands::on_series(
-            rt,
-            o,
-            s,
-            q,
-            own,
-            &series[..held],
-            &numbers,
-            &texts,
-            reading.count,
-            reading.headed,
-        );
-    }
-}
-
-// The words that ask for the columns; empty where there are none.
-fn with_columns(
-    rt: &(impl Env + Print + EprintBytes),
-    o: Options,
-    s: MsarSpec,
-    q: MsarParams,
-    own: &[u8],
-    input: &mut impl Read,
-    path: &[u8],
-) {
-    let mut name = host_io::buffer();
-    let n = host_io::arg(rt, o.column, &mut name);
-    let mut kept = host_io::buffer();
-    let m = host_io::arg(rt, o.keep, &mut kept);
-    with_readings(rt, o, s, q, own, input, path, &name[..n], &kept[..m]);
-}
-
 fn on_series(
     rt: &(impl Env + Files + Input + Print + EprintBytes),
-    o: Options,
-    s: MsarSpec,
-    q: MsarParams,
+    call: Call,
+    model: &Model,
     own: &[u8],
 ) {
-    let mut path = host_io::buffer();
-    let n = host_io::arg(rt, o.series, &mut path);
-    let Some(mut input) = opened(rt, &path[..n]) else {
+    let o = call.options;
+    let path = word(rt, o.series);
+    let Some(mut input) = opened(rt, path.as_slice()) else {
         return;
     };
-    with_columns(rt, o, s, q, own, &mut input, &path[..n]);
+    let name = word(rt, o.column);
+    let kept = word(rt, o.keep);
+    let columns = columns_of(o, name.as_slice(), kept.as_slice());
+    let mut readings = Readings::none();
+    let read = msar_files::series::read(rt, &mut input, path.as_slice(), columns, &mut readings);
+    if let Some(reading) = read {
+        commands::on_series(rt, call, model, own, reading, &readings);
+    }
 }
 
 // ---- on a model
 
-// Room for the text of a MODEL file.
-fn no_text() -> [u8; 16384]
-    ensures { 16384 ≡ length result }
-{
-    [0; 16384]
-}
-
 fn by_command(
     rt: &(impl Env + Files + Input + Print + EprintBytes),
-    o: Options,
-    s: MsarSpec,
-    q: MsarParams,
+    call: Call,
+    model: &Model,
     own: &[u8],
 ) {
-    let command = o.command;
-    match command {
-        Command::Check => msar_commands::check(rt, s, q),
-        Command::Durations => msar_commands::durations(rt, s, q, o.digits),
-        _ => on_series(rt, o, s, q, own),
+    match call.command {
+        Command::Check => msar_commands::check(rt, model.spec, model.params),
+        Command::Durations => msar_commands::durations(
+            rt,
+            model.spec,
+            model.params,
+            call.options.digits,
+        ),
+        _ => on_series(rt, call, model, own),
     }
 }
 
 // The MODEL's own text goes with it; nothing of it where it found no room.
-fn with_text(
-    rt: &(impl Env + Files + Input + Print + EprintBytes),
-    o: Options,
-    s: MsarSpec,
-    q: MsarParams,
-    own: &[u8],
-    held: usize,
-) {
-    if held > own.len() {
-        msar_say::note(
-            rt,
-            b"the MODEL has more than 16384 bytes: a fit writes it without its comments",
-        );
-        by_command(rt, o, s, q, b"");
-        return;
+fn text_of<'a>(rt: &impl EprintBytes, own: &'a Own) -> &'a [u8] {
+    match own {
+        Some(text) => text.as_slice(),
+        None => {
+            msar_say::note(
+                rt,
+                b"the MODEL has more than 16384 bytes: a fit writes it without its comments",
+            );
+            b""
+        }
     }
-    let part = text_words::part(own, 0, held);
-    let a = part.start;
-    let b = part.end;
-    by_command(rt, o, s, q, &own[a..b]);
 }
 
-fn on_model(rt: &(impl Env + Files + Input + Print + EprintBytes), o: Options) {
-    if (o.series != 0) & msar_args::is_input(rt, o.model) & msar_args::is_input(rt, o.series) {
+fn are_both_input(rt: &impl Env, o: Options) -> bool {
+    match (o.model, o.series) {
+        (Some(i), Some(j)) => msar_args::is_input(rt, i) && msar_args::is_input(rt, j),
+        _ => false,
+    }
+}
+
+fn on_model(rt: &(impl Env + Files + Input + Print + EprintBytes), call: Call) {
+    let o = call.options;
+    if are_both_input(rt, o) {
         msar_say::error(rt, b"MODEL and SERIES cannot both be standard input");
         return;
     }
-    let mut path = host_io::buffer();
-    let n = host_io::arg(rt, o.model, &mut path);
-    let Some(mut input) = opened(rt, &path[..n]) else {
+    let path = word(rt, o.model);
+    let Some(mut input) = opened(rt, path.as_slice()) else {
         return;
     };
-    let mut own = no_text();
-    let reading = msar_files::model::read(rt, &mut input, &path[..n], &mut own);
+    let mut own = Some(ArrayVec::new());
+    let read = msar_files::model::read(rt, &mut input, path.as_slice(), &mut own);
     drop(input);
-    if reading.good {
-        let model = reading.model;
-        let s = model.spec;
-        let q = model.params;
-        with_text(rt, o, s, q, &own, reading.held);
+    if let Some(model) = read {
+        by_command(rt, call, &model, text_of(rt, &own));
     }
 }
 
 // `start` has no MODEL: an empty one stands in its place, which it does not look at.
-fn without_model(rt: &(impl Env + Files + Input + Print + EprintBytes), o: Options) {
-    let model = text_model::finish(text_model::start());
-    let s = model.spec;
-    let q = model.params;
-    on_series(rt, o, s, q, b"");
+fn without_model(rt: &(impl Env + Files + Input + Print + EprintBytes), call: Call) {
+    let model = text_model::so_far(text_model::start());
+    on_series(rt, call, &model, b"");
 }
 
 fn main(rt: HostRuntime) {
-    let o = msar_args::read(&rt);
-    let command = o.command;
-    if !o.good {
-        return;
-    }
-    match command {
-        Command::Help => msar_args::help::help(&rt),
-        Command::Version => msar_args::help::version(&rt),
-        Command::Start => without_model(&rt, o),
-        _ => on_model(&rt, o),
+    match msar_args::read(&rt) {
+        Err(fault) => fault.say(&rt),
+        Ok(call) => match call.command {
+            Command::Help => msar_args::help::help(&rt),
+            Command::Version => msar_args::help::version(&rt),
+            Command::Start => without_model(&rt, call),
+            _ => on_model(&rt, call),
+        },
     }
 }

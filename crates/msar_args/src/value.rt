@@ -1,182 +1,135 @@
-// The value of an option. What is at fault is said by then.
-use crate::{Options, Waiting};
-use host_io::EprintBytes;
-use text_decimal_read::Parsed;
-use text_words::Count;
+// The options that take a value, and their values.
+use crate::Options;
+use crate::fault::Fault;
 
-fn bad(o: Options) -> Options {
-    let mut next = o;
-    next.good = false;
-    next
+// A column's word is looked up when the heading is read; here its place among the arguments is kept.
+#[derive(Clone, Copy)]
+pub enum Valued {
+    Column,
+    Keep,
+    Separator,
+    Tol,
+    Whole(Whole),
 }
 
-pub fn tol(rt: &impl EprintBytes, word: &[u8], o: Options) -> Options {
-    match text_decimal_read::read(word) {
-        Parsed::Wrong(_) => {
-            msar_say::error_of(rt, b"--tol takes a number, and not ", word);
-            bad(o)
-        }
-        Parsed::Number(x) => {
-            let mut next = o;
-            next.tol = x;
-            next.for_fit = true;
-            next
-        }
+// Those whose value is a whole number.
+#[derive(Clone, Copy)]
+pub enum Whole {
+    Digits,
+    Rule,
+    Regime,
+    Regimes,
+    Order,
+    MaxIter,
+    Starts,
+}
+
+pub fn option_of(word: &[u8]) -> Option<Valued> {
+    match word {
+        b"--column" => Some(Valued::Column),
+        b"--keep" => Some(Valued::Keep),
+        b"--separator" => Some(Valued::Separator),
+        b"--tol" => Some(Valued::Tol),
+        b"--digits" => Some(Valued::Whole(Whole::Digits)),
+        b"--rule" => Some(Valued::Whole(Whole::Rule)),
+        b"--regime" => Some(Valued::Whole(Whole::Regime)),
+        b"--regimes" => Some(Valued::Whole(Whole::Regimes)),
+        b"--order" => Some(Valued::Whole(Whole::Order)),
+        b"--max-iter" => Some(Valued::Whole(Whole::MaxIter)),
+        b"--starts" => Some(Valued::Whole(Whole::Starts)),
+        _ => None,
     }
 }
 
-// A column's word is looked up when the heading is read; here its place among the arguments.
-pub fn column(rt: &impl EprintBytes, i: usize, o: Options) -> Options {
-    if o.column != 0 {
-        msar_say::error(rt, b"--column is given twice");
-        return bad(o);
-    }
-    let mut next = o;
-    next.column = i;
-    next
-}
-
-pub fn keep(rt: &impl EprintBytes, i: usize, o: Options) -> Options {
-    if o.keep != 0 {
-        msar_say::error(rt, b"--keep is given twice");
-        return bad(o);
-    }
-    let mut next = o;
-    next.keep = i;
-    next
-}
-
-fn separated_by(c: u8, o: Options) -> Options {
-    let mut next = o;
-    next.separator = c;
-    next.separator_given = true;
-    next
-}
-
-pub fn separator(rt: &impl EprintBytes, word: &[u8], o: Options) -> Options {
-    if text_words::same(word, b",") {
-        return separated_by(b',', o);
-    }
-    if text_words::same(word, b";") {
-        return separated_by(b';', o);
-    }
-    if text_words::same(word, b"tab") {
-        return separated_by(b'\t', o);
-    }
-    msar_say::error_of(rt, b"--separator takes `,`, `;` or `tab`, and not ", word);
-    bad(o)
-}
-
-// ---- whole numbers
-
-fn outside(rt: &impl EprintBytes, word: &[u8], waiting: Waiting) {
-    match waiting {
-        Waiting::Digits => {
-            msar_say::error_of(
-                rt,
-                b"--digits takes a whole number from 1 to 17, and not ",
-                word,
-            )
-        }
-        Waiting::Rule => msar_say::error_of(rt, b"--rule takes 1 or 2, and not ", word),
-        Waiting::Regime => {
-            msar_say::error_of(
-                rt,
-                b"--regime takes a regime's number, from 0 on, and not ",
-                word,
-            )
-        }
-        Waiting::Regimes => {
-            msar_say::error_of(
-                rt,
-                b"--regimes takes a whole number from 2 to 16, and not ",
-                word,
-            )
-        }
-        Waiting::Order => {
-            msar_say::error_of(
-                rt,
-                b"--order takes a whole number from 1 to 7 (a fit needs one of at least 1), and not ",
-                word,
-            )
-        }
-        Waiting::Starts => {
-            msar_say::error_of(
-                rt,
-                b"--starts takes a whole number from 1 to 100, and not ",
-                word,
-            )
-        }
-        _ => msar_say::error_of(
-            rt,
-            b"--max-iter takes a whole number below 1000000000, and not ",
-            word,
-        ),
-    }
-}
-
-fn is_inside(n: usize, waiting: Waiting) -> bool {
-    match waiting {
-        Waiting::Digits => (n >= 1) & (n <= 17),
-        Waiting::Rule => (n >= 1) & (n <= 2),
-        Waiting::Regime => n < 16,
-        Waiting::Regimes => (n >= 2) & (n <= 16),
-        Waiting::Order => (n >= 1) & (n <= 7),
-        Waiting::Starts => (n >= 1) & (n <= 100),
-        _ => true,
-    }
-}
-
-fn kept(n: usize, waiting: Waiting, o: Options) -> Options {
-    let mut next = o;
-    match waiting {
-        Waiting::Digits => next.digits = n,
-        Waiting::Rule => {
-            next.rule = n;
-            next.rule_given = true;
-        }
-        Waiting::Regime => {
-            next.regime = n;
-            next.regime_given = true;
-        }
-        Waiting::Regimes => next.regimes = n,
-        Waiting::Order => {
-            next.order = n;
-            next.order_given = true;
-        }
-        Waiting::Starts => {
-            next.starts = n;
-            next.for_fit = true;
-        }
-        _ => {
-            next.max_iter = n;
-            next.for_fit = true;
+impl Whole {
+    // Of the numbers below 1000000000.
+    fn takes(self, n: usize) -> bool {
+        match self {
+            Whole::Digits => matches!(n, 1..=17),
+            Whole::Rule => matches!(n, 1..=2),
+            Whole::Regime => n < 16,
+            Whole::Regimes => matches!(n, 2..=16),
+            Whole::Order => matches!(n, 1..=7),
+            Whole::MaxIter => true,
+            Whole::Starts => matches!(n, 1..=100),
         }
     }
-    next
-}
 
-pub fn count(rt: &impl EprintBytes, word: &[u8], waiting: Waiting, o: Options) -> Options {
-    match text_words::whole(word) {
-        Count::Wrong => {
-            outside(rt, word, waiting);
-            bad(o)
-        }
-        Count::Number(n) => {
-            if !is_inside(n, waiting) {
-                outside(rt, word, waiting);
-                return bad(o);
+    fn what_it_takes(self) -> &'static [u8] {
+        match self {
+            Whole::Digits => b"--digits takes a whole number from 1 to 17, and not ",
+            Whole::Rule => b"--rule takes 1 or 2, and not ",
+            Whole::Regime => b"--regime takes a regime's number, from 0 on, and not ",
+            Whole::Regimes => b"--regimes takes a whole number from 2 to 16, and not ",
+            Whole::Order => {
+                b"--order takes a whole number from 1 to 7 (a fit needs one of at least 1), and not "
             }
-            kept(n, waiting, o)
+            Whole::MaxIter => b"--max-iter takes a whole number below 1000000000, and not ",
+            Whole::Starts => b"--starts takes a whole number from 1 to 100, and not ",
         }
     }
 }
 
-// The rule decides which numbers come out, so a second one is not passed over.
-pub fn rule(rt: &impl EprintBytes, word: &[u8], o: Options) -> Options {
-    if o.rule_given {
-        msar_say::error(rt, b"--rule is given twice");
-        return bad(o);
+fn tol(word: &[u8], i: usize) -> Result<f64, Fault> {
+    text_decimal_read::read(word).map_err(|_| Fault::Word(b"--tol takes a number, and not ", i))
+}
+
+fn separator(word: &[u8], i: usize) -> Result<u8, Fault> {
+    match word {
+        b"," => Ok(b','),
+        b";" => Ok(b';'),
+        b"tab" => Ok(b'\t'),
+        _ => Err(Fault::Word(b"--separator takes `,`, `;` or `tab`, and not ", i)),
     }
-    count(rt, word, Waiting::Rule, o)
+}
+
+fn number_of(option: Whole, word: &[u8], i: usize) -> Result<usize, Fault> {
+    text_words::whole(word)
+        .filter(|n| option.takes(*n))
+        .ok_or(Fault::Word(option.what_it_takes(), i))
+}
+
+fn once(given: Option<usize>, twice: &'static [u8]) -> Result<(), Fault> {
+    if given.is_some() {
+        return Err(Fault::Call(twice));
+    }
+    Ok(())
+}
+
+impl Options {
+    // The rule decides which numbers come out, so a second one is not passed over.
+    fn set_whole(&mut self, option: Whole, word: &[u8], i: usize) -> Result<(), Fault> {
+        if let Whole::Rule = option {
+            once(self.rule, b"--rule is given twice")?;
+        }
+        let n = Some(number_of(option, word, i)?);
+        match option {
+            Whole::Digits => self.digits = n,
+            Whole::Rule => self.rule = n,
+            Whole::Regime => self.regime = n,
+            Whole::Regimes => self.regimes = n,
+            Whole::Order => self.order = n,
+            Whole::MaxIter => self.max_iter = n,
+            Whole::Starts => self.starts = n,
+        }
+        Ok(())
+    }
+
+    // The option's value is the word with number i.
+    pub fn set(&mut self, option: Valued, word: &[u8], i: usize) -> Result<(), Fault> {
+        match option {
+            Valued::Column => {
+                once(self.column, b"--column is given twice")?;
+                self.column = Some(i);
+            }
+            Valued::Keep => {
+                once(self.keep, b"--keep is given twice")?;
+                self.keep = Some(i);
+            }
+            Valued::Separator => self.separator = Some(separator(word, i)?),
+            Valued::Tol => self.tol = Some(tol(word, i)?),
+            Valued::Whole(whole) => return self.set_whole(whole, word, i),
+        }
+        Ok(())
+    }
 }

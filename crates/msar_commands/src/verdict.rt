@@ -1,114 +1,42 @@
 // Which regime holds at the end, and since when: a row for each regime, and a sentence.
-ghost use Rattle.std.specs.Prelude.{◌<◌};
-ghost use Rattle.text_words.specs.Places.{Leads};
-
-use crate::refusals::{has_passed, line_at};
+use crate::refusals::passed;
+use crate::{Series, time_of};
 use host_io::EprintBytes;
 use msar_out::table::Style;
 use msar_out::{is_written, table};
-use msar_say::put;
-use msar_say::put::Text;
-use msar_verdict::{Finding, Verdict};
+use msar_say::put::Figure;
+use msar_verdict::Finding;
 use params::MsarParams;
 use spec::MsarSpec;
+use std::fmt::Write;
 use std::io;
-use text_words::least;
-
-// Which regimes are asked for: all below k, or one.
-#[derive(Clone, Copy)]
-pub struct Asked {
-    pub one: bool,
-    pub regime: usize,
-}
-
-// The reading with which the run begins.
-fn time_of(found: Finding, order: usize) -> usize {
-    least(found.since, 4096) + least(order, 7)
-}
 
 // ---- the sentence
 
-fn counted(out: &mut Text, at: usize, before: &[u8], i: usize, behind: &[u8]) -> usize
-    ensures { Leads result out.new }
-{
-    let n = put::bytes(out, at, before);
-    let n = put::whole(out, n, i as u64);
-    put::bytes(out, n, behind)
-}
-
-fn spanned(out: &mut Text, at: usize, run: usize) -> usize
-    ensures { Leads result out.new }
-{
-    if run == 1 {
-        return put::bytes(out, at, b", the last one, whose probability is ");
-    }
-    counted(
-        out,
-        at,
-        b", ",
-        run,
-        b" readings up to the last one, whose probability is ",
-    )
-}
-
-fn ending(out: &mut Text, at: usize, found: Finding) -> usize
-    ensures { Leads result out.new }
-{
-    let n = counted(
-        out,
-        at,
-        b", ",
-        found.run,
-        b" readings up to the last one, whose probability is ",
-    );
-    let n = put::figure(out, n, found.share, 6);
-    if found.run < found.needed {
-        return counted(
-            out,
-            n,
-            b"; not settled before ",
-            found.needed,
-            b" readings\n",
-        );
-    }
-    counted(
-        out,
-        n,
-        b"; settled, since ",
-        found.needed,
-        b" readings are enough\n",
-    )
-}
-
 fn holds(rt: &impl EprintBytes, regime: usize, found: Finding, t: usize, line: u64) {
-    let mut out = put::blank();
-    let n = counted(
-        &mut out,
-        0,
-        b"msar: note: regime ",
-        regime,
-        b" holds since reading ",
+    let mut out = msar_say::note_begun();
+    let _ = write!(
+        out,
+        "regime {regime} holds since reading {t} (line {line}), {} readings up to the last one, whose probability is {}; ",
+        found.run,
+        Figure::of(found.share, 6)
     );
-    let n = put::whole(&mut out, n, t as u64);
-    let n = put::bytes(&mut out, n, b" (line ");
-    let n = put::whole(&mut out, n, line);
-    let n = put::bytes(&mut out, n, b")");
-    let n = ending(&mut out, n, found);
-    host_io::complain(rt, &out[..n]);
+    let _ = if found.run < found.needed {
+        write!(out, "not settled before {} readings", found.needed)
+    } else {
+        write!(out, "settled, since {} readings are enough", found.needed)
+    };
+    out.say_line(rt);
 }
 
 fn does_not_hold(rt: &impl EprintBytes, regime: usize, found: Finding) {
-    let mut out = put::blank();
-    let n = counted(
-        &mut out,
-        0,
-        b"msar: note: regime ",
-        regime,
-        b" does not hold at the end: its probability there is ",
+    let mut out = msar_say::note_begun();
+    let _ = write!(
+        out,
+        "regime {regime} does not hold at the end: its probability there is {}",
+        Figure::of(found.share, 6)
     );
-    let n = put::figure(&mut out, n, found.share, 6);
-    let n = put::bytes(&mut out, n, b"\n");
-    host_io::complain(rt, &out[..n]);
+    out.say_line(rt);
 }
 
 // ---- the rows
@@ -118,102 +46,68 @@ fn one_regime(
     rt: &(impl Print + EprintBytes),
     regime: usize,
     found: Finding,
-    asked: Asked,
+    is_asked: bool,
     order: usize,
-    numbers: &[u64],
-    texts: &[u8],
-    style: Style,
+    series: Series<'_>,
+    style: Style<'_>,
 ) -> io::Result<()> {
-    let t = time_of(found, order);
-    let line = line_at(numbers, t);
+    let t = time_of(found.since, order);
+    let line = series.line(t);
     if found.run > 0 {
         holds(rt, regime, found, t, line);
-    } else if asked.one {
+    } else if is_asked {
         does_not_hold(rt, regime, found);
     }
-    table::verdict(rt, regime, found, t, line, texts, style)
+    table::verdict(rt, regime, found, t, line, style)
 }
 
 // Whether a regime stands above one half at the end.
 fn any_holds(smoothed: &[f64], n: usize, k: usize) -> bool {
-    for r in 0..k {
-        if msar_verdict::run(smoothed, n, k, r) > 0 {
-            return true;
-        }
-    }
-    false
+    (0..k).any(|r| msar_verdict::run(smoothed, n, k, r) > 0)
 }
 
+// The names, and the rows: of the regime that is asked for, or of all.
 fn rows(
     rt: &(impl Print + EprintBytes),
     s: MsarSpec,
     n: usize,
     smoothed: &[f64],
     durations: [f64; 16],
-    asked: Asked,
-    numbers: &[u64],
-    texts: &[u8],
-    style: Style,
+    asked: Option<usize>,
+    series: Series<'_>,
+    style: Style<'_>,
 ) -> io::Result<()> {
-    let k = least(s.k_regimes, 16);
-    for r in 0..k {
-        if !asked.one | (r == asked.regime) {
-            let found = msar_verdict::of_regime(smoothed, n, k, r, durations[r]);
-            one_regime(rt, r, found, asked, s.order, numbers, texts, style)?;
+    table::verdict_names(rt, style)?;
+    let k = s.k_regimes.min(16);
+    for (r, duration) in durations.iter().take(k).enumerate() {
+        if asked.is_none_or(|regime| regime == r) {
+            let found = msar_verdict::of_regime(smoothed, n, k, r, *duration);
+            one_regime(rt, r, found, asked.is_some(), s.order, series, style)?;
         }
     }
     Ok(())
 }
 
-// The names, and the rows.
-fn headed_rows(
-    rt: &(impl Print + EprintBytes),
-    s: MsarSpec,
-    n: usize,
-    smoothed: &[f64],
-    durations: [f64; 16],
-    asked: Asked,
-    numbers: &[u64],
-    texts: &[u8],
-    style: Style,
-) -> io::Result<()> {
-    table::verdict_names(rt, texts, style)?;
-    rows(rt, s, n, smoothed, durations, asked, numbers, texts, style)
-}
-
-// The count of rows.
-fn rows_of(readings: usize, order: usize) -> usize {
-    if readings < order {
-        return 0;
-    }
-    readings - order
-}
-
 fn written(
     rt: &(impl Print + EprintBytes),
     s: MsarSpec,
-    y: &[f64],
+    series: Series<'_>,
     q: MsarParams,
-    numbers: &[u64],
-    texts: &[u8],
-    asked: Asked,
-    style: Style,
+    asked: Option<usize>,
+    style: Style<'_>,
     smoothed: &[f64],
 ) {
-    let d = q.expected_durations();
-    let durations = d.values;
-    let n = rows_of(y.len(), s.order);
-    if !asked.one & !any_holds(smoothed, n, s.k_regimes) {
+    let durations = q.expected_durations().unwrap_or([0.0; 16]);
+    let n = series.values.len().saturating_sub(s.order);
+    if asked.is_none() & !any_holds(smoothed, n, s.k_regimes) {
         msar_say::note(rt, b"no regime has a probability above one half at the end");
     }
-    is_written(
-        rt,
-        headed_rows(rt, s, n, smoothed, durations, asked, numbers, texts, style),
-    );
+    let went = rows(rt, s, n, smoothed, durations, asked, series, style);
+    is_written(rt, went);
 }
 
 // At order 0 the smoothed numbers of rule 1 are no probabilities.
-fn is_possible(rt: &impl EprintBytes, s: MsarSpec, rule: usize, asked: Asked) -> bool {
+fn is_possible(rt: &impl EprintBytes, s: MsarSpec, rule: usize, asked: Option<usize>) -> bool {
     if (s.order == 0) & (rule == 1) {
         msar_say::error(
             rt,
@@ -221,7 +115,9 @@ fn is_possible(rt: &impl EprintBytes, s: MsarSpec, rule: usize, asked: Asked) ->
         );
         return false;
     }
-    if asked.one & (asked.regime >= s.k_regimes) {
+    if let Some(regime) = asked
+        && regime >= s.k_regimes
+    {
         msar_say::error(
             rt,
             b"--regime names a regime that the MODEL does not have: they count from 0",
@@ -231,17 +127,15 @@ fn is_possible(rt: &impl EprintBytes, s: MsarSpec, rule: usize, asked: Asked) ->
     true
 }
 
+// Of all regimes, or of the one that is asked for.
 pub fn verdict(
     rt: &(impl Print + EprintBytes),
     s: MsarSpec,
-    y: &[f64],
+    series: Series<'_>,
     q: MsarParams,
     rule: usize,
-    numbers: &[u64],
-    texts: &[u8],
-    readings: usize,
-    asked: Asked,
-    style: Style,
+    asked: Option<usize>,
+    style: Style<'_>,
     work: &mut [f64],
     filtered: &mut [f64],
     smoothed: &mut [f64],
@@ -249,9 +143,8 @@ pub fn verdict(
     if !is_possible(rt, s, rule, asked) {
         return;
     }
-    let answer = calls::smooth(s, y, q, rule, work, filtered, smoothed);
-    let check = answer.check;
-    if has_passed(rt, check, s, q, y, numbers, readings) {
-        written(rt, s, y, q, numbers, texts, asked, style, smoothed);
+    let answer = calls::smooth(s, series.values, q, rule, work, filtered, smoothed);
+    if passed(rt, answer, s, q, series).is_some() {
+        written(rt, s, series, q, asked, style, smoothed);
     }
 }

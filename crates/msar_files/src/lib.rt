@@ -5,11 +5,11 @@ use host_io::{EprintBytes, Opened};
 use std::io::Input;
 use std::rt::Files;
 
-mod csv;
-pub mod keep;
+pub mod csv;
+mod fault;
 mod lines;
 pub mod model;
-mod plain;
+pub mod readings;
 pub mod series;
 
 // A file, `-` being standard input; none where it cannot be opened, which is said by then.
@@ -17,7 +17,7 @@ pub fn opened<R: Files + Input + EprintBytes>(
     rt: &R,
     path: &[u8],
 ) -> Option<Opened<R::File, R::Reader>> {
-    if text_words::same(path, b"-") {
+    if let b"-" = path {
         return Some(Opened::Input(rt.reader()));
     }
     match host_io::open_read(rt, path) {
@@ -27,12 +27,4 @@ pub fn opened<R: Files + Input + EprintBytes>(
             None
         }
     }
-}
-
-// Columns count from 1.
-fn column(place: usize) -> u64 {
-    if place < 4096 {
-        return place as u64 + 1;
-    }
-    4097
 }

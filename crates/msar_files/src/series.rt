@@ -1,189 +1,195 @@
 // Reads a SERIES file.
-use crate::keep::{Layout, Progress, Told};
-use crate::lines::{Course, Source};
-use crate::{csv, keep, lines, plain};
+use crate::csv::{Columns, Layout};
+use crate::fault::Fault;
+use crate::lines;
+use crate::lines::{Line, Part, Say, said};
+use crate::readings::{HEADING, Readings};
 use host_io::EprintBytes;
-use std::io;
+use msar_say::file::At;
 use std::io::Read;
+use text_series::Item;
 
-// What was at fault is said by then. Readings are counted past the room for them.
+// How many readings there are, past the room for them, and whether they stand under a heading.
 #[derive(Clone, Copy)]
 pub struct Reading {
-    pub good: bool,
     pub count: usize,
     pub headed: bool,
 }
 
+// So far: the readings counted; the line of the first blank one since the last reading; what the first line says of the columns;
+// whether every reading could be half a number.
 #[derive(Clone, Copy)]
-struct Turn {
-    source: Source,
-    progress: Progress,
-    course: Course,
+struct Progress {
+    count: usize,
+    blank: Option<u64>,
+    layout: Option<Layout>,
+    doubtful: bool,
 }
 
-// What the line says.
-fn told(
-    rt: &impl EprintBytes,
-    path: &[u8],
-    number: u64,
-    text: &[u8],
-    p: Progress,
-    layout: Layout,
-    name: &[u8],
-    kept: &[u8],
-) -> Told {
-    if layout.csv {
-        return csv::line(rt, path, number, text, p, layout, name, kept);
+impl Progress {
+    fn none() -> Progress {
+        Progress {
+            count: 0,
+            blank: None,
+            layout: None,
+            doubtful: false,
+        }
     }
-    plain::line(rt, path, number, text, p)
-}
 
-// Reads a line, without a byte order mark.
-fn line_read(
-    rt: &impl EprintBytes,
-    path: &[u8],
-    number: u64,
-    whole: &[u8],
-    p: Progress,
-    layout: Layout,
-    name: &[u8],
-    kept: &[u8],
-    series: &mut [f64],
-    numbers: &mut [u64],
-    texts: &mut [u8],
-) -> Told {
-    let from = text_words::mark(whole, number == 1);
-    let next = told(rt, path, number, &whole[from..], p, layout, name, kept);
-    keep::all(&whole[from..], number, next, series, numbers, texts);
-    next
-}
+    // A blank line is fine where nothing but blank lines and comments follows it.
+    fn blank_line(&mut self, line: Line<'_>) -> Option<()> {
+        self.blank = self.blank.or(Some(line.number));
+        Some(())
+    }
 
-// Takes the next line.
-fn one_line(
-    rt: &impl EprintBytes,
-    input: &mut impl Read,
-    path: &[u8],
-    number: u64,
-    source: Source,
-    p: Progress,
-    layout: Layout,
-    name: &[u8],
-    kept: &[u8],
-    block: &mut [u8; 4096],
-    series: &mut [f64],
-    numbers: &mut [u64],
-    texts: &mut [u8],
-) -> Turn {
-    let mut line = host_io::buffer();
-    let taken = lines::next(input, source, block, &mut line);
-    let after = taken.source;
-    let n = taken.length;
-    let state = taken.state;
-    let course = lines::told(rt, state, path, number);
-    let Course::Going = course else {
-        return Turn {
-            source: after,
-            progress: p,
-            course,
+    fn follows(self) -> Result<(), Fault<'static>> {
+        match self.blank {
+            Some(number) => Err(Fault::Blank(number)),
+            None => Ok(()),
+        }
+    }
+
+    fn count(&mut self, line: Line<'_>, x: f64, readings: &mut Readings) {
+        self.count = self.count.saturating_add(1);
+        readings.add(x, line.number);
+    }
+
+    // ---- without columns
+
+    fn plain(
+        &mut self,
+        rt: &impl EprintBytes,
+        line: Line<'_>,
+        readings: &mut Readings,
+    ) -> Option<()> {
+        let item = match text_series::read(line.text) {
+            Item::Comment => return Some(()),
+            Item::Blank => return self.blank_line(line),
+            Item::Reading(x) => Ok(x),
+            Item::Missing(word) => Err(Fault::Missing(Part::within(line.text, word))),
+            Item::NoNumber(word) => Err(Fault::NoNumber(Part::within(line.text, word))),
+            Item::Second(place) => Err(Fault::Second(place)),
         };
-    };
-    let next = line_read(
-        rt,
-        path,
-        number,
-        &line[..n],
-        p,
-        layout,
-        name,
-        kept,
-        series,
-        numbers,
-        texts,
-    );
-    let progress = next.progress;
-    let course = next.course;
-    Turn {
-        source: after,
-        progress,
-        course,
+        let x = said(rt, line, item)?;
+        said(rt, line, self.follows())?;
+        self.count(line, x, readings);
+        Some(())
+    }
+
+    // ---- with columns
+
+    fn first(
+        &mut self,
+        rt: &impl EprintBytes,
+        line: Line<'_>,
+        columns: Columns<'_>,
+    ) -> Option<Layout> {
+        let layout = said(rt, line, columns.layout(line.text))?;
+        let cell = columns.content(line.text, layout.column).text;
+        let heading = if layout.headed { Some(cell) } else { None };
+        msar_say::file::column_read(rt, line.path, lines::column(layout.column), heading);
+        self.layout = Some(layout);
+        self.doubtful = !layout.headed & columns.separator.is_none();
+        Some(layout)
+    }
+
+    fn heading(
+        &self,
+        rt: &impl EprintBytes,
+        line: Line<'_>,
+        columns: Columns<'_>,
+        layout: Layout,
+        readings: &mut Readings,
+    ) -> Option<()> {
+        if let Some(cell) = said(rt, line, columns.kept_cell(layout, line.text))? {
+            readings.keep(HEADING, cell);
+        }
+        Some(())
+    }
+
+    fn row(
+        &mut self,
+        rt: &impl EprintBytes,
+        line: Line<'_>,
+        columns: Columns<'_>,
+        layout: Layout,
+        readings: &mut Readings,
+    ) -> Option<()> {
+        let x = said(rt, line, columns.reading(layout, line.text))?;
+        self.doubtful = self.doubtful && columns.row(line.text).is_doubtful(layout.column);
+        // where a blank line and the kept cell are at fault, both are said
+        let follows = said(rt, line, self.follows());
+        let kept = said(rt, line, columns.kept_cell(layout, line.text))?;
+        follows?;
+        if let Some(cell) = kept {
+            readings.keep(self.count, cell);
+        }
+        self.count(line, x, readings);
+        Some(())
+    }
+
+    fn cells(
+        &mut self,
+        rt: &impl EprintBytes,
+        line: Line<'_>,
+        columns: Columns<'_>,
+        readings: &mut Readings,
+    ) -> Option<()> {
+        if columns.is_blank(line.text) {
+            return self.blank_line(line);
+        }
+        if !text_words::closed(line.text) {
+            Fault::Unclosed.say(rt, line);
+            return None;
+        }
+        match self.layout {
+            Some(layout) => self.row(rt, line, columns, layout, readings),
+            None => {
+                let layout = self.first(rt, line, columns)?;
+                if layout.headed {
+                    return self.heading(rt, line, columns, layout, readings);
+                }
+                self.row(rt, line, columns, layout, readings)
+            }
+        }
+    }
+
+    // ---- the end
+
+    // Without a heading nothing says that a comma parts cells and does not cut numbers.
+    fn ended(self, rt: &impl EprintBytes, path: &[u8], readings: &Readings) -> Option<Reading> {
+        if self.doubtful & (self.count > 0) {
+            let at = At {
+                path,
+                line: readings.lines.as_slice().first().copied().unwrap_or(1),
+                column: 1,
+            };
+            at.wrong(
+                rt,
+                b"every reading could be a part of a number that a comma cuts in two, as `0,37` or `1,234.5`: write a point and no comma, or say with --separator , that commas part the cells",
+            );
+            return None;
+        }
+        Some(Reading {
+            count: self.count,
+            headed: self.layout.is_some_and(|layout| layout.headed),
+        })
     }
 }
 
-fn bad() -> Reading {
-    Reading {
-        good: false,
-        count: 0,
-        headed: false,
-    }
-}
-
-// The line of the first reading.
-fn first_of(numbers: &[u64]) -> u64 {
-    if numbers.len() == 0 {
-        return 1;
-    }
-    numbers[0]
-}
-
-// Without a heading nothing says that a comma parts cells and does not cut numbers.
-fn ended(rt: &impl EprintBytes, path: &[u8], p: Progress, numbers: &[u64]) -> Reading {
-    if p.doubtful & (p.count > 0) {
-        msar_say::file::wrong(
-            rt,
-            path,
-            first_of(numbers),
-            1,
-            b"every reading could be a part of a number that a comma cuts in two, as `0,37` or `1,234.5`: write a point and no comma, or say with --separator , that commas part the cells",
-        );
-        return bad();
-    }
-    Reading {
-        good: true,
-        count: p.count,
-        headed: p.headed,
-    }
-}
-
-// The readings of the file, with their lines and the kept cells, as far as there is room. `name` and `kept` are the words that ask for
-// the columns. A proved loop has to end, and nothing says that the file does: it stops after 2 ^ 32 lines.
+// The readings of the file, with their lines and the kept cells, as far as there is room. None where something is at fault, which is said
+// by then.
 pub fn read(
     rt: &impl EprintBytes,
     input: &mut impl Read,
     path: &[u8],
-    layout: Layout,
-    name: &[u8],
-    kept: &[u8],
-    series: &mut [f64],
-    numbers: &mut [u64],
-    texts: &mut [u8],
-) -> Reading {
-    let mut block = host_io::buffer();
-    let mut source = lines::of();
-    let mut p = keep::nothing();
-    for number in 1..0x1_0000_0000u64 {
-        let t = one_line(
-            rt, input, path, number, source, p, layout, name, kept, &mut block, series, numbers,
-            texts,
-        );
-        source = t.source;
-        p = t.progress;
-        let course = t.course;
-        match course {
-            Course::Going => {}
-            Course::Done => {
-                return ended(rt, path, p, numbers);
-            }
-            Course::Stopped => {
-                return bad();
-            }
-        }
-    }
-    msar_say::failed(
-        rt,
-        b"too many lines in ",
-        path,
-        // no call failed: the system's words for its number 0
-        io::Error::from_raw_os_error(0),
-    );
-    bad()
+    columns: Option<Columns<'_>>,
+    readings: &mut Readings,
+) -> Option<Reading> {
+    let mut progress = Progress::none();
+    lines::each(rt, input, path, |line| match columns {
+        Some(columns) => progress.cells(rt, line, columns, readings),
+        None => progress.plain(rt, line, readings),
+    })?;
+    progress.ended(rt, path, readings)
 }

@@ -1,98 +1,50 @@
 // The regimes of fitted parameters, put in the order in which the means of the start stood: EM may bring a regime to another's place.
-ghost use Rattle.std.specs.Prelude.{◌≤◌, ◌<◌};
+ghost use Rattle.std.specs.Prelude.{◌≤◌};
 
 use msar_out::{entry, row_start};
 use params::MsarParams;
-use text_words::least;
+use std::cmp::Ordering;
 
 // ---- ranks
 
-// Whether mean j comes before mean i: it is lower, or as low and earlier.
-fn is_before(means: &[f64; 16], j: usize, i: usize) -> bool {
-    let a = entry(means, j);
-    let b = entry(means, i);
-    (a < b) | ((a == b) & (j < i))
-}
-
-// How many of k means come before this one.
-fn rank(means: &[f64; 16], k: usize, i: usize) -> usize
+// The numbers of k regimes by their means, from the lowest; of equal means the earlier first.
+fn by_mean(means: &[f64; 16], k: usize) -> [usize; 16]
     requires { k ≤ 16 }
 {
-    let mut count = 0;
-    for j in 0..k {
-        count = count_of(count, is_before(means, j, i));
-    }
-    count
-}
-
-// One more where it is so, 16 at most.
-fn count_of(count: usize, so: bool) -> usize {
-    if !so {
-        return count;
-    }
-    if count >= 16 {
-        return count;
-    }
-    count + 1
-}
-
-// Whether another of k means is equal to this one.
-fn is_tied(means: &[f64; 16], k: usize, i: usize) -> bool
-    requires { k ≤ 16 }
-{
-    for j in 0..k {
-        if (j != i) & (entry(means, j) == entry(means, i)) {
-            return true;
-        }
-    }
-    false
+    let mut regimes = [0, 1, 2, 3, 4, 5, 6, 7, 8, 9, 10, 11, 12, 13, 14, 15];
+    regimes[..k].sort_unstable_by(|i, j| {
+        let a = entry(means, *i);
+        let b = entry(means, *j);
+        a.partial_cmp(&b).unwrap_or(Ordering::Equal).then(i.cmp(j))
+    });
+    regimes
 }
 
 // Whether two of k means are equal, so that they have no order.
-fn has_tie(means: &[f64; 16], k: usize) -> bool
-    requires { k ≤ 16 }
-{
-    for i in 0..k {
-        if is_tied(means, k, i) {
-            return true;
-        }
-    }
-    false
-}
-
-// The regime whose mean has this rank.
-fn holder(means: &[f64; 16], k: usize, wanted: usize) -> usize
-    requires { k ≤ 16 }
-    ensures { result < 16 }
-{
-    for j in 0..k {
-        if rank(means, k, j) == wanted {
-            return j;
-        }
-    }
-    0
+fn has_tie(means: &[f64; 16], k: usize) -> bool {
+    (0..k).any(|i| (0..i).any(|j| entry(means, i) == entry(means, j)))
 }
 
 // For each regime of the start the one reached that has its rank.
 fn sources(start: &[f64; 16], reached: &[f64; 16], k: usize) -> [usize; 16]
     requires { k ≤ 16 }
 {
+    let before = by_mean(start, k);
+    let after = by_mean(reached, k);
     let mut from = [0; 16];
-    for i in 0..k {
-        from[i] = holder(reached, k, rank(start, k, i));
+    for (regime, source) in before.iter().zip(&after).take(k) {
+        if let Some(place) = from.get_mut(*regime) {
+            *place = *source;
+        }
     }
     from
 }
 
-fn is_moved(from: [usize; 16], k: usize) -> bool
-    requires { k ≤ 16 }
-{
-    for i in 0..k {
-        if from[i] != i {
-            return true;
-        }
-    }
-    false
+fn is_moved(from: &[usize; 16], k: usize) -> bool {
+    from.iter()
+        .take(k)
+        .enumerate()
+        .any(|(i, source)| *source != i)
 }
 
 // ---- parameters
@@ -102,19 +54,19 @@ fn picked(values: &[f64], at: usize, from: [usize; 16], n: usize) -> [f64; 16]
     requires { (at ≤ 65536) × (n ≤ 16) }
 {
     let mut row = [0.0; 16];
-    for j in 0..n {
-        row[j] = entry(values, at + least(from[j], 15));
+    for (place, source) in row[..n].iter_mut().zip(&from) {
+        *place = entry(values, at + (*source).min(15));
     }
     row
 }
 
-// n numbers from a place on.
+// n numbers from a place on. Beside picked, which moves them too.
 fn copied(values: &[f64], at: usize, n: usize) -> [f64; 16]
-    requires { (at ≤ 65536) × (n ≤ 16) }
+    requires { n ≤ 16 }
 {
     let mut row = [0.0; 16];
-    for j in 0..n {
-        row[j] = entry(values, at + j);
+    for (place, value) in row[..n].iter_mut().zip(values.iter().skip(at)) {
+        *place = *value;
     }
     row
 }
@@ -124,8 +76,9 @@ fn transition(old: &[f64], from: [usize; 16], k: usize) -> [f64; 256]
     requires { k ≤ 16 }
 {
     let mut table = [0.0; 256];
+    // an index, not enumerate(): of its number the check knows no bound, which with_row asks
     for i in 0..k {
-        let source = row_start(least(from[i], 15), k);
+        let source = row_start(from[i].min(15), k);
         let row = picked(old, source, from, k);
         let grown = text_model_line::with_row(table, i, k, row);
         table = grown;
@@ -133,80 +86,44 @@ fn transition(old: &[f64], from: [usize; 16], k: usize) -> [f64; 256]
     table
 }
 
-// Each regime's own block of p coefficients.
+// Each regime's own block of p coefficients. Beside transition: there the columns move too.
 fn blocks(old: &[f64], from: [usize; 16], k: usize, p: usize) -> [f64; 112]
     requires { (k ≤ 16) × (p ≤ 7) }
 {
     let mut table = [0.0; 112];
+    // an index, not enumerate(): of its number the check knows no bound, which with_row asks
     for i in 0..k {
-        let source = row_start(least(from[i], 15), p);
+        let source = row_start(from[i].min(15), p);
         let row = copied(old, source, p);
-        let grown = text_model_line::with_block(table, i, p, row);
+        let grown = text_model_line::with_row(table, i, p, row);
         table = grown;
     }
     table
 }
 
-// One block for all regimes stays.
-fn ar_of(q: MsarParams, from: [usize; 16], k: usize) -> [f64; 112]
-    requires { k ≤ 16 }
-{
-    let ar = q.ar;
-    if q.ar_blocks != k {
-        return ar;
-    }
-    blocks(&ar, from, k, least(q.order, 7))
-}
-
-// And so does one variance.
-fn variances_of(q: MsarParams, from: [usize; 16], k: usize) -> [f64; 16]
-    requires { k ≤ 16 }
-{
-    let variances = q.variances;
-    if q.variances_count != k {
-        return variances;
-    }
-    picked(&variances, 0, from, k)
-}
-
+// One block for all regimes stays, and so does one variance.
 fn rearranged(q: MsarParams, from: [usize; 16], k: usize) -> MsarParams
     requires { k ≤ 16 }
 {
-    let old_means = q.means;
-    let old_table = q.transition;
-    let means = picked(&old_means, 0, from, k);
-    let table = transition(&old_table, from, k);
-    let ar = ar_of(q, from, k);
-    let variances = variances_of(q, from, k);
     let mut next = q;
-    next.means = means;
-    next.transition = table;
-    next.ar = ar;
-    next.variances = variances;
+    next.means = picked(&q.means, 0, from, k);
+    next.transition = transition(&q.transition, from, k);
+    if q.ar_blocks == k {
+        next.ar = blocks(&q.ar, from, k, q.order.min(7));
+    }
+    if q.variances_count == k {
+        next.variances = picked(&q.variances, 0, from, k);
+    }
     next
 }
 
-// The parameters reached, and whether their regimes were moved.
-#[derive(Clone, Copy)]
-pub struct Ordered {
-    pub params: MsarParams,
-    pub moved: bool,
-}
-
-// In the order of the start's means, where these are all different: regimes of equal means differ in something else.
-pub fn as_in(start: MsarParams, reached: MsarParams) -> Ordered {
-    let k = least(reached.means_count, 16);
-    let before = start.means;
-    let after = reached.means;
-    let from = sources(&before, &after, k);
-    if has_tie(&before, k) | !is_moved(from, k) {
-        return Ordered {
-            params: reached,
-            moved: false,
-        };
+// The parameters reached, in the order of the start's means, where they stood in another one and these are all different: regimes of equal
+// means differ in something else.
+pub fn as_in(start: MsarParams, reached: MsarParams) -> Option<MsarParams> {
+    let k = reached.means_count.min(16);
+    let from = sources(&start.means, &reached.means, k);
+    if has_tie(&start.means, k) | !is_moved(&from, k) {
+        return None;
     }
-    Ordered {
-        params: rearranged(reached, from, k),
-        moved: true,
-    }
+    Some(rearranged(reached, from, k))
 }

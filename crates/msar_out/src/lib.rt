@@ -20,11 +20,9 @@ pub fn is_written(rt: &impl EprintBytes, went: io::Result<()>) -> bool {
     }
 }
 
+// Beyond the table +0.
 pub fn entry(table: &[f64], i: usize) -> f64 {
-    if i < table.len() {
-        return table[i];
-    }
-    0.0
+    table.get(i).copied().unwrap_or(0.0)
 }
 
 // The place of a row's first number.

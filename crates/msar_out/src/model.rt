@@ -1,15 +1,11 @@
 // A MODEL, as `start` and `fit` write it: numbers with 17 digits, so that the same bits are read back.
-ghost use Rattle.std.specs.Prelude.{◌<◌, ◌≤◌};
-ghost use Rattle.text_words.specs.Places.{Leads};
-
 use crate::{entry, is_written, row_start};
 use host_io::EprintBytes;
-use msar_say::put;
-use msar_say::put::Text;
+use msar_say::put::{Figure, Text};
 use params::MsarParams;
-use std::io;
+use std::fmt::Write;
+use std::{fmt, io};
 use text_model_line::Kind;
-use text_words::least;
 
 // What stands in front of a fitted MODEL. The best of so many starts was the one with this number.
 #[derive(Clone, Copy)]
@@ -27,125 +23,69 @@ pub struct Head {
 
 // ---- lines
 
-// A keyword and so many numbers from a place on.
-fn numbers(
-    out: &mut Text,
-    at: usize,
-    keyword: &[u8],
-    values: &[f64],
-    from: usize,
-    count: usize,
-) -> usize
-    requires { (from ≤ 65536) × (count ≤ 16) }
-    ensures { Leads result out.new }
-{
-    let mut n = put::bytes(out, at, keyword);
-    for j in 0..count {
-        n = put::bytes(out, n, b" ");
-        n = put::number(out, n, entry(values, from + j));
-    }
-    put::bytes(out, n, b"")
-}
-
 // The numbers of row number `row`, of n numbers.
-fn row_of(out: &mut Text, keyword: &[u8], values: &[f64], row: usize, n: usize) -> usize
-    ensures { Leads result out.new }
-{
-    let count = least(n, 16);
-    numbers(
-        out,
-        0,
-        keyword,
-        values,
-        row_start(least(row, 15), count),
-        count,
-    )
-}
-
-fn whole(out: &mut Text, keyword: &[u8], n: usize) -> usize
-    ensures { Leads result out.new }
-{
-    let to = put::bytes(out, 0, keyword);
-    put::whole(out, to, n as u64)
+fn row_of(out: &mut Text, keyword: &[u8], values: &[f64], row: usize, n: usize) {
+    let count = n.min(16);
+    let from = row_start(row.min(15), count);
+    out.bytes(keyword);
+    for j in 0..count {
+        out.bytes(b" ");
+        out.number(entry(values, from + j));
+    }
 }
 
 // A line of this kind; of the table and of the AR blocks the row with this number.
-fn of_kind(out: &mut Text, q: MsarParams, kind: Kind, row: usize) -> usize
-    ensures { Leads result out.new }
-{
+fn of_kind(q: MsarParams, kind: Kind, row: usize) -> Text {
     let k = q.means_count;
+    let mut out = Text::new();
     match kind {
-        Kind::Regimes => whole(out, b"regimes ", k),
-        Kind::Order => whole(out, b"order ", q.order),
-        Kind::Transition => row_of(out, b"transition", &q.transition, row, k),
-        Kind::Means => row_of(out, b"means", &q.means, 0, k),
-        Kind::Ar => row_of(out, b"ar", &q.ar, row, q.order),
-        Kind::Variances => row_of(out, b"variances", &q.variances, 0, q.variances_count),
-        Kind::Other => put::bytes(out, 0, b""),
+        Kind::Regimes => {
+            let _ = write!(out, "regimes {k}");
+        }
+        Kind::Order => {
+            let _ = write!(out, "order {}", q.order);
+        }
+        Kind::Transition => row_of(&mut out, b"transition", &q.transition, row, k),
+        Kind::Means => row_of(&mut out, b"means", &q.means, 0, k),
+        Kind::Ar => row_of(&mut out, b"ar", &q.ar, row, q.order),
+        Kind::Variances => row_of(&mut out, b"variances", &q.variances, 0, q.variances_count),
     }
+    out
 }
 
-// The line, and behind it what stands behind the numbers of the MODEL that was read.
-fn write_line(
-    rt: &impl Print,
-    q: MsarParams,
-    kind: Kind,
-    row: usize,
-    behind: &[u8],
-) -> io::Result<()> {
-    let mut out = put::blank();
-    let n = of_kind(&mut out, q, kind, row);
-    let n = put::bytes(&mut out, n, behind);
-    let n = put::bytes(&mut out, n, b"\n");
-    rt.write_all(&out[..n])
+fn write_line(rt: &impl Print, q: MsarParams, kind: Kind, row: usize) -> io::Result<()> {
+    let mut out = of_kind(q, kind, row);
+    out.bytes(b"\n");
+    rt.write_all(out.as_slice())
 }
 
 // ---- a MODEL without one to follow
 
-fn rows(rt: &impl Print, q: MsarParams, count: usize, table: bool) -> io::Result<()> {
-    for row in 0..count {
-        let kind = if table { Kind::Transition } else { Kind::Ar };
-        write_line(rt, q, kind, row, b"")?;
+fn rows(rt: &impl Print, q: MsarParams, kind: Kind, count: usize) -> io::Result<()> {
+    for row in 0..count.min(16) {
+        write_line(rt, q, kind, row)?;
     }
     Ok(())
 }
 
 pub fn plain(rt: &impl Print, q: MsarParams) -> io::Result<()> {
-    write_line(rt, q, Kind::Regimes, 0, b"")?;
-    write_line(rt, q, Kind::Order, 0, b"")?;
-    rows(rt, q, least(q.means_count, 16), true)?;
-    write_line(rt, q, Kind::Means, 0, b"")?;
-    rows(rt, q, least(q.ar_blocks, 16), false)?;
-    write_line(rt, q, Kind::Variances, 0, b"")
+    write_line(rt, q, Kind::Regimes, 0)?;
+    write_line(rt, q, Kind::Order, 0)?;
+    rows(rt, q, Kind::Transition, q.means_count)?;
+    write_line(rt, q, Kind::Means, 0)?;
+    rows(rt, q, Kind::Ar, q.ar_blocks)?;
+    write_line(rt, q, Kind::Variances, 0)
 }
 
 // ---- a MODEL that follows the one that was read, line by line
 
-fn kind_of(line: &[u8]) -> Kind {
-    let word = text_words::word(line, 0);
-    let a = word.start;
-    let b = word.end;
-    text_model_line::keyword(&line[a..b])
-}
-
-fn is_kind_of_table(kind: Kind) -> bool {
-    if let Kind::Transition = kind {
-        true
-    } else {
-        false
-    }
-}
-
-fn is_kind_of_block(kind: Kind) -> bool {
-    if let Kind::Ar = kind { true } else { false }
+fn kind_of(line: &[u8]) -> Option<Kind> {
+    text_model_line::keyword(text_words::word(line, 0).of(line))
 }
 
 // A comment, or a blank line. What an earlier fit put in front is left away, and what `start` did.
 fn as_it_stands(rt: &impl Print, line: &[u8]) -> io::Result<()> {
-    if text_words::begins(line, b"# fit:") {
-        return Ok(());
-    }
-    if text_words::begins(line, b"# start:") {
+    if line.starts_with(b"# fit:") || line.starts_with(b"# start:") {
         return Ok(());
     }
     rt.write_all(line)?;
@@ -155,116 +95,73 @@ fn as_it_stands(rt: &impl Print, line: &[u8]) -> io::Result<()> {
 // The line's comment stays behind its numbers.
 fn followed(rt: &impl Print, q: MsarParams, line: &[u8], kind: Kind, row: usize) -> io::Result<()> {
     let from = text_words::comment(line);
-    if from >= line.len() {
-        return write_line(rt, q, kind, row, b"");
+    let comment = &line[from..];
+    if comment.is_empty() {
+        return write_line(rt, q, kind, row);
     }
-    let mut out = put::blank();
-    let n = of_kind(&mut out, q, kind, row);
-    let n = put::bytes(&mut out, n, b"   ");
-    let n = put::bytes(&mut out, n, &line[from..]);
-    let n = put::bytes(&mut out, n, b"\n");
-    rt.write_all(&out[..n])
-}
-
-fn one_line(
-    rt: &impl Print,
-    q: MsarParams,
-    line: &[u8],
-    kind: Kind,
-    rows: usize,
-    blocks: usize,
-) -> io::Result<()> {
-    match kind {
-        Kind::Other => as_it_stands(rt, line),
-        Kind::Transition => followed(rt, q, line, kind, rows),
-        Kind::Ar => followed(rt, q, line, kind, blocks),
-        Kind::Regimes => followed(rt, q, line, kind, 0),
-        Kind::Order => followed(rt, q, line, kind, 0),
-        Kind::Means => followed(rt, q, line, kind, 0),
-        Kind::Variances => followed(rt, q, line, kind, 0),
-    }
-}
-
-// One more where the line is of the kind that is counted.
-fn counted(n: usize, is_one: bool) -> usize
-    ensures { result ≤ 16 }
-{
-    if is_one {
-        return least(n, 15) + 1;
-    }
-    least(n, 16)
+    let mut out = of_kind(q, kind, row);
+    out.bytes(b"   ");
+    out.bytes(comment);
+    out.bytes(b"\n");
+    rt.write_all(out.as_slice())
 }
 
 // The parameters q in the lines of `own`, the MODEL that was read.
 fn following(rt: &impl Print, q: MsarParams, own: &[u8]) -> io::Result<()> {
-    let mut at = 0;
-    let mut rows = 0;
-    let mut blocks = 0;
-    while at < own.len() {
-        let end = text_words::line_end(own, at);
-        let kind = kind_of(&own[at..end]);
-        one_line(rt, q, &own[at..end], kind, rows, blocks)?;
-        rows = counted(rows, is_kind_of_table(kind));
-        blocks = counted(blocks, is_kind_of_block(kind));
-        at = end + 1;
+    let lines = own.strip_suffix(b"\n").unwrap_or(own);
+    let mut rows = 0usize;
+    let mut blocks = 0usize;
+    for line in lines.split(|c| *c == b'\n') {
+        let kind = kind_of(line);
+        match kind {
+            None => as_it_stands(rt, line)?,
+            Some(Kind::Transition) => {
+                followed(rt, q, line, Kind::Transition, rows)?;
+                rows = rows.saturating_add(1);
+            }
+            Some(Kind::Ar) => {
+                followed(rt, q, line, Kind::Ar, blocks)?;
+                blocks = blocks.saturating_add(1);
+            }
+            Some(kind) => followed(rt, q, line, kind, 0)?,
+        }
     }
     Ok(())
 }
 
 // ---- in front
 
-fn noted(out: &mut Text, at: usize, what: &[u8], x: f64) -> usize
-    ensures { Leads result out.new }
-{
-    let n = put::bytes(out, at, what);
-    let n = put::number(out, n, x);
-    put::bytes(out, n, b"\n")
-}
-
-fn counted_as(out: &mut Text, at: usize, what: &[u8], i: usize) -> usize
-    ensures { Leads result out.new }
-{
-    let n = put::bytes(out, at, what);
-    let n = put::whole(out, n, i as u64);
-    put::bytes(out, n, b"\n")
-}
-
-fn told_starts(out: &mut Text, at: usize, h: Head) -> usize
-    ensures { Leads result out.new }
-{
-    if h.starts < 2 {
-        return put::bytes(out, at, b"");
+fn exact(value: f64) -> Figure {
+    Figure {
+        value,
+        digits: None,
     }
-    let n = counted_as(out, at, b"# fit: starts ", h.starts);
-    counted_as(out, n, b"# fit: best of them, counted from 0, ", h.best)
 }
 
-fn told_end(out: &mut Text, at: usize, converged: bool) -> usize
-    ensures { Leads result out.new }
-{
-    if converged {
-        return put::bytes(out, at, b"# fit: converged yes\n");
+impl fmt::Display for Head {
+    fn fmt<W: Write>(&self, f: &mut fmt::Formatter<W>) -> fmt::Result {
+        let converged = if self.converged { "yes" } else { "no" };
+        writeln!(f, "# fit: log-likelihood {}", exact(self.loglik))?;
+        writeln!(f, "# fit: iterations {}", self.iterations)?;
+        writeln!(f, "# fit: converged {converged}")?;
+        writeln!(f, "# fit: parameters {}", self.parameters)?;
+        writeln!(f, "# fit: rows {}", self.rows)?;
+        writeln!(f, "# fit: AIC {}", exact(self.aic))?;
+        writeln!(f, "# fit: BIC {}", exact(self.bic))?;
+        if self.starts < 2 {
+            return Ok(());
+        }
+        writeln!(f, "# fit: starts {}", self.starts)?;
+        writeln!(f, "# fit: best of them, counted from 0, {}", self.best)
     }
-    put::bytes(out, at, b"# fit: converged no\n")
-}
-
-fn write_head(rt: &impl Print, h: Head) -> io::Result<()> {
-    let mut out = put::blank();
-    let n = noted(&mut out, 0, b"# fit: log-likelihood ", h.loglik);
-    let n = counted_as(&mut out, n, b"# fit: iterations ", h.iterations);
-    let n = told_end(&mut out, n, h.converged);
-    let n = counted_as(&mut out, n, b"# fit: parameters ", h.parameters);
-    let n = counted_as(&mut out, n, b"# fit: rows ", h.rows);
-    let n = noted(&mut out, n, b"# fit: AIC ", h.aic);
-    let n = noted(&mut out, n, b"# fit: BIC ", h.bic);
-    let n = told_starts(&mut out, n, h);
-    rt.write_all(&out[..n])
 }
 
 // In the lines of `own`; plain where they were too many to be kept.
 fn in_lines(rt: &impl Print, q: MsarParams, h: Head, own: &[u8]) -> io::Result<()> {
-    write_head(rt, h)?;
-    if own.len() == 0 {
+    let mut out = Text::new();
+    let _ = write!(out, "{h}");
+    rt.write_all(out.as_slice())?;
+    if own.is_empty() {
         return plain(rt, q);
     }
     following(rt, q, own)

@@ -1,111 +1,149 @@
-// Pieces of a message or of a row of output, put behind each other. What finds no room is left out; the largest message fits.
-ghost use Rattle.text_words.specs.Places.{Leads};
+// A message or a row of output, put together piece by piece. What finds no room is left out; the largest message fits.
+ghost use Rattle.std.specs.Prelude.{◌≡◌, [], ◌++◌, take, decimal};
 
+use arrayvec::ArrayVec;
+use host_io::EprintBytes;
 use itoa::Buffer;
+use std::fmt;
 
 // Room for a path and a message, and for a model of 16 regimes, of 8,100 bytes.
-pub type Text = [u8; 16384];
+const ROOM: usize = 16384;
 
-pub fn bytes(out: &mut Text, at: usize, text: &[u8]) -> usize
-    ensures { Leads result out.new }
-{
-    text_words::put(out, at, text)
+#[derive(Drop)]
+pub struct Text {
+    pub bytes: ArrayVec<u8, ROOM>,
 }
 
-pub fn whole(out: &mut Text, at: usize, n: u64) -> usize
-    ensures { Leads result out.new }
-{
-    let mut digits = Buffer::new();
-    text_words::put(out, at, digits.format(n).as_bytes())
-}
-
-// 17 significant digits, from which the same bits are read back.
-pub fn number(out: &mut Text, at: usize, x: f64) -> usize
-    ensures { Leads result out.new }
-{
-    let written = text_decimal_write::write(x);
-    let digits = written.bytes;
-    let n = written.length;
-    text_words::put(out, at, &digits[0..n])
-}
-
-// For people to read: so many digits, as C's `%g` lays them out.
-fn short(out: &mut Text, at: usize, x: f64, digits: usize) -> usize
-    ensures { Leads result out.new }
-{
-    let written = text_decimal_short::short(x, digits);
-    let bytes = written.bytes;
-    let n = written.length;
-    text_words::put(out, at, &bytes[0..n])
-}
-
-// With so many digits, 0 for all 17.
-pub fn figure(out: &mut Text, at: usize, x: f64, digits: usize) -> usize
-    ensures { Leads result out.new }
-{
-    if digits == 0 {
-        return number(out, at, x);
+// For `write!`. It is never refused: what finds no room is left out.
+impl fmt::Write for Text {
+    fn write_str(&mut self, text: &str) -> fmt::Result {
+        self.bytes(text.as_bytes());
+        Ok(())
     }
-    short(out, at, x, digits)
 }
 
-// The name of a file, as an error names it.
-pub fn name(out: &mut Text, at: usize, path: &[u8]) -> usize
-    ensures { Leads result out.new }
-{
-    if text_words::same(path, b"-") {
-        return bytes(out, at, b"standard input");
+impl Text {
+    pub fn new() -> Self
+        ensures { result.bytes.items ≡ [] }
+    {
+        Text {
+            bytes: ArrayVec::new(),
+        }
     }
-    bytes(out, at, path)
-}
 
-// ---- a text that was found in a file
+    pub fn as_slice(&self) -> &[u8]
+        ensures { result.now ≡ self.now.bytes.items }
+    {
+        self.bytes.as_slice()
+    }
+
+    // As many of the bytes as find room.
+    pub fn bytes(&mut self, text: &[u8])
+        ensures { self.new.bytes.items ≡ take 16384 (self.old.bytes.items ++ text.now) }
+    {
+        let n = self.bytes.remaining_capacity().min(text.len());
+        let _ = self.bytes.try_extend_from_slice(&text[..n]);
+    }
+
+    pub fn whole(&mut self, n: u64)
+        ensures { self.new.bytes.items ≡ take 16384 (self.old.bytes.items ++ decimal n) }
+    {
+        let mut digits = Buffer::new();
+        self.bytes(digits.format(n).as_bytes());
+    }
+
+    // 17 significant digits, from which the same bits are read back.
+    pub fn number(&mut self, x: f64) {
+        self.figure(x, None);
+    }
+
+    // With so many digits, or all 17.
+    pub fn figure(&mut self, x: f64, digits: Option<usize>) {
+        self.bytes(written(x, digits).as_slice());
+    }
+
+    // The name of a file, as an error names it.
+    pub fn name(&mut self, path: &[u8]) {
+        match path {
+            b"-" => self.bytes(b"standard input"),
+            _ => self.bytes(path),
+        }
+    }
+
+    // Says the text on standard error.
+    pub fn say(&self, rt: &impl EprintBytes) {
+        host_io::complain(rt, self.as_slice());
+    }
+
+    // Ends the line, and says it.
+    pub fn say_line(&mut self, rt: &impl EprintBytes) {
+        self.bytes(b"\n");
+        self.say(rt);
+    }
+
+    // ---- a text that was found in a file
+
+    // The text between back quotes; an empty one is named so.
+    pub fn quoted(&mut self, text: &[u8]) {
+        if text.is_empty() {
+            self.bytes(b"an empty cell");
+            return;
+        }
+        self.bytes(b"`");
+        self.start_of(text);
+        self.bytes(b"`");
+    }
+
+    // The first bytes of the text, at most 48.
+    fn start_of(&mut self, text: &[u8]) {
+        for c in text.iter().take(48) {
+            self.bytes(&[shown(*c)]);
+        }
+        if text.len() > 48 {
+            self.bytes(b"..");
+        }
+    }
+}
 
 // A byte that a terminal may show. Those of letters beyond ASCII pass, those that no letter has do not.
 fn shown(c: u8) -> u8 {
-    if (c < 32) | (c == 127) | (c == 0xC0) | (c == 0xC1) | (c > 0xF4) {
-        return b'?';
+    match c {
+        0..32 | 127 | 0xC0 | 0xC1 | 0xF5.. => b'?',
+        _ => c,
     }
-    c
 }
 
-// The first bytes of the text, at most 48.
-fn start_of(out: &mut Text, at: usize, text: &[u8]) -> usize
-    ensures { Leads result out.new }
-{
-    let mut piece = [0u8; 48];
-    for i in 0..text.len() {
-        if i >= 48 {
-            let n = text_words::put(out, at, &piece);
-            return bytes(out, n, b"..");
+// ---- numbers
+
+// For people to read: so many digits, as C's `%g` lays them out. Without a number of digits all 17.
+fn written(x: f64, digits: Option<usize>) -> text_decimal_write::Text {
+    match digits {
+        Some(n) => text_decimal_short::short(x, n),
+        None => text_decimal_write::write(x),
+    }
+}
+
+// A number of so many digits, or of all 17, for `{}`.
+#[derive(Clone, Copy)]
+pub struct Figure {
+    pub value: f64,
+    pub digits: Option<usize>,
+}
+
+impl Figure {
+    pub fn of(value: f64, digits: usize) -> Figure {
+        Figure {
+            value,
+            digits: Some(digits),
         }
-        piece[i] = shown(text[i]);
     }
-    first_of(out, at, &piece, text.len())
 }
 
-// The first n bytes.
-fn first_of(out: &mut Text, at: usize, piece: &[u8], n: usize) -> usize
-    ensures { Leads result out.new }
-{
-    if n >= piece.len() {
-        return bytes(out, at, piece);
+impl fmt::Display for Figure {
+    fn fmt<W: fmt::Write>(&self, f: &mut fmt::Formatter<W>) -> fmt::Result {
+        for c in written(self.value, self.digits).as_slice() {
+            f.write_char(char::from(*c))?;
+        }
+        Ok(())
     }
-    bytes(out, at, &piece[..n])
-}
-
-// The text between back quotes; an empty one is named so.
-pub fn quoted(out: &mut Text, at: usize, text: &[u8]) -> usize
-    ensures { Leads result out.new }
-{
-    if text.len() == 0 {
-        return bytes(out, at, b"an empty cell");
-    }
-    let n = bytes(out, at, b"`");
-    let n = start_of(out, n, text);
-    bytes(out, n, b"`")
-}
-
-pub fn blank() -> Text {
-    [0; 16384]
 }

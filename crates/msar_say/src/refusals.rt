@@ -1,316 +1,216 @@
 // What a refusal of the library means to whoever wrote the MODEL or the SERIES. docs/REFUSALS.md has the same, longer.
-ghost use Rattle.text_words.specs.Places.{Leads};
-
-use crate::put;
-use crate::put::Text;
+use crate::put::{Figure, Text};
 use host_io::EprintBytes;
 use refusal::Refusal;
+use std::fmt;
+use std::fmt::{Display, Formatter, Write};
+
+// A number as a message shows it.
+fn shown(value: f64) -> Figure {
+    Figure::of(value, 15)
+}
 
 // ---- pieces
 
-// A whole number between two texts.
-fn count(out: &mut Text, n: usize, before: &[u8], i: usize, behind: &[u8]) -> usize
-    ensures { Leads result out.new }
-{
-    let n = put::bytes(out, n, before);
-    let n = put::whole(out, n, i as u64);
-    put::bytes(out, n, behind)
-}
-
-// Behind it a number and a text.
-fn value(out: &mut Text, n: usize, x: f64, behind: &[u8]) -> usize
-    ensures { Leads result out.new }
-{
-    let n = put::figure(out, n, x, 15);
-    put::bytes(out, n, behind)
-}
-
-// ---- the spec and the series
-
-fn of_series(out: &mut Text, n: usize, number: usize, i: usize) -> usize
-    ensures { Leads result out.new }
-{
-    match number {
-        1 => count(
-            out,
-            n,
-            b"a model has at least 2 regimes, and this one has ",
-            i,
-            b"",
-        ),
-        2 => count(
-            out,
-            n,
-            b"",
-            i,
-            b" regimes with this order have more than 256 windows (regimes to the power order + 1): lower the order",
-        ),
-        3 => count(
-            out,
-            n,
-            b"a model has at most 16 regimes, and this one has ",
-            i,
-            b"",
-        ),
-        4 => count(
-            out,
-            n,
-            b"the series has too few readings for the order: at least ",
-            i,
-            b" are needed",
-        ),
-        5 => count(
-            out,
-            n,
-            b"the series has ",
-            i,
-            b" readings, and 4096 are the most",
-        ),
-        _ => count(
-            out,
-            n,
-            b"so many readings and windows need more memory than the program has, ",
-            i,
-            b" numbers: take fewer readings or a lower order (msar check says how many readings every command takes)",
-        ),
-    }
-}
-
-// ---- the parameters
-
-// The entry of the transition table by its line and place, both counted from 0 as regimes are.
-fn of_entry(out: &mut Text, n: usize, e: usize, k: usize, x: f64) -> usize
-    ensures { Leads result out.new }
-{
+// An entry of the transition table of k regimes, by its line and its place there, counted from 0 as regimes are.
+fn of_entry<W: Write>(f: &mut Formatter<W>, e: usize, k: usize, x: f64) -> fmt::Result {
     if k == 0 {
-        return put::bytes(
-            out,
-            n,
-            b"an entry of the transition table is no probability",
-        );
+        return write!(f, "an entry of the transition table is no probability");
     }
-    let n = count(
-        out,
-        n,
-        b"the transition table's probability of regime ",
+    write!(
+        f,
+        "the transition table's probability of regime {} after regime {} is {}, and a probability is from 0 to 1",
         e / k,
-        b" after regime ",
-    );
-    let n = put::whole(out, n, (e % k) as u64);
-    let n = put::bytes(out, n, b" is ");
-    value(out, n, x, b", and a probability is from 0 to 1")
-}
-
-fn of_coefficient(out: &mut Text, n: usize, i: usize, order: usize, x: f64) -> usize
-    ensures { Leads result out.new }
-{
-    if order == 0 {
-        return put::bytes(out, n, b"an AR coefficient is not finite");
-    }
-    let n = count(out, n, b"on line `ar` ", i / order, b" number ");
-    let n = put::whole(out, n, (i % order) as u64);
-    let n = put::bytes(out, n, b" (both counted from 0) is ");
-    value(out, n, x, b", and has to be finite")
-}
-
-// A number of the regime i.
-fn of_regime(out: &mut Text, n: usize, what: &[u8], i: usize, x: f64, rule: &[u8]) -> usize
-    ensures { Leads result out.new }
-{
-    let n = count(out, n, what, i, b" is ");
-    value(out, n, x, rule)
-}
-
-fn of_column(out: &mut Text, n: usize, j: usize, sum: f64) -> usize
-    ensures { Leads result out.new }
-{
-    let n = count(
-        out,
-        n,
-        b"column ",
-        j,
-        b" of the transition table (counted from 0) adds up to ",
-    );
-    value(out, n, sum, b", and not to 1")
-}
-
-fn of_numbers(out: &mut Text, n: usize, r: Refusal, k: usize, order: usize) -> usize
-    ensures { Leads result out.new }
-{
-    let i = r.place();
-    let x = r.value();
-    match r.number() {
-        11 => of_regime(
-            out,
-            n,
-            b"the mean of regime ",
-            i,
-            x,
-            b", and has to be finite",
-        ),
-        13 => of_entry(out, n, i, k, x),
-        14 => of_column(out, n, i, x),
-        15 => of_coefficient(out, n, i, order, x),
-        16 => of_regime(
-            out,
-            n,
-            b"variance ",
-            i,
-            x,
-            b" (counted from 0), and has to be finite and above 0",
-        ),
-        _ => of_regime(
-            out,
-            n,
-            b"the stationary share of regime ",
-            i,
-            x,
-            b": not finite, or below 0; see that every regime can be reached from the others",
-        ),
-    }
-}
-
-fn of_shape(out: &mut Text, n: usize, number: usize, i: usize) -> usize
-    ensures { Leads result out.new }
-{
-    match number {
-        10 => count(
-            out,
-            n,
-            b"there are ",
-            i,
-            b" means, and a model has at least 2",
-        ),
-        12 => count(
-            out,
-            n,
-            b"a count of numbers or lines does not fit the regimes and the order: expected ",
-            i,
-            b"",
-        ),
-        17 => put::bytes(out, n, b"there is no line `ar`"),
-        18 => count(
-            out,
-            n,
-            b"there are more than 16 means, or the order is above 7: ",
-            i,
-            b"",
-        ),
-        _ => put::bytes(out, n, b"the parameters do not have the spec's shape"),
-    }
-}
-
-// ---- the run
-
-// The column is the regime, or for the AR coefficients the lag less one. Whose coefficients they are stands in the hint.
-fn of_system(out: &mut Text, n: usize, which: usize, column: u8) -> usize
-    ensures { Leads result out.new }
-{
-    let regime = column as usize;
-    match which {
-        0 => count(
-            out,
-            n,
-            b"the stationary shares are not determined: among regimes 0 to ",
-            regime,
-            b" (counted from 0) the transition table has regimes, or groups of them, that are never left for each other; let each be left with a small probability, as 0.001; if a fit came to such a table, try another start or fewer regimes",
-        ),
-        1 => count(
-            out,
-            n,
-            b"no data tell the mean of regime ",
-            regime,
-            b" (counted from 0) from the others: over the variances the readings say next to nothing of it; try smaller variances, fewer regimes or another start",
-        ),
-        _ => count(
-            out,
-            n,
-            b"no data determine the AR coefficient of lag ",
-            regime + 1,
-            b"",
-        ),
-    }
-}
-
-fn of_run(out: &mut Text, n: usize, r: Refusal) -> usize
-    ensures { Leads result out.new }
-{
-    match r {
-        Refusal::Singular(which, column) => of_system(out, n, which, column),
-        Refusal::OtherRule => put::bytes(out, n, b"there is no such rule: take 1 or 2"),
-        Refusal::OrderZero => put::bytes(
-            out,
-            n,
-            b"a fit needs an order of at least 1: write `order 1` and `ar 0`, and EM finds the coefficient",
-        ),
-        Refusal::SampleVariance(x) => of_variance(out, n, x),
-        _ => put::bytes(out, n, b"the log-likelihood is not finite"),
-    }
-}
-
-fn of_variance(out: &mut Text, n: usize, x: f64) -> usize
-    ensures { Leads result out.new }
-{
-    let n = put::bytes(out, n, b"the sample variance of the readings is ");
-    value(
-        out,
-        n,
-        x,
-        b", and a fit needs readings that vary (and whose squares are finite)",
+        e % k,
+        shown(x)
     )
 }
 
-fn meaning(out: &mut Text, n: usize, r: Refusal, k: usize, order: usize) -> usize
-    ensures { Leads result out.new }
-{
-    match r.number() {
-        1..=7 => of_series(out, n, r.number(), r.place()),
-        10 | 12 | 17 | 18 | 20 => of_shape(out, n, r.number(), r.place()),
-        11..=16 => of_numbers(out, n, r, k, order),
-        22 => of_numbers(out, n, r, k, order),
-        _ => of_run(out, n, r),
+// Beside of_entry, and not one with it: other words for another table.
+fn of_coefficient<W: Write>(f: &mut Formatter<W>, i: usize, order: usize, x: f64) -> fmt::Result {
+    if order == 0 {
+        return write!(f, "an AR coefficient is not finite");
+    }
+    write!(
+        f,
+        "on line `ar` {} number {} (both counted from 0) is {}, and has to be finite",
+        i / order,
+        i % order,
+        shown(x)
+    )
+}
+
+// The column is the regime, or for the AR coefficients the lag less one. Whose coefficients they are stands in the hint.
+// Which system it is has a number in document 01, the place of refusal 21.
+fn of_system<W: Write>(f: &mut Formatter<W>, which: usize, column: u8) -> fmt::Result {
+    match which {
+        0 => write!(
+            f,
+            "the stationary shares are not determined: among regimes 0 to {column} (counted from 0) the transition table has regimes, or groups of them, that are never left for each other; let each be left with a small probability, as 0.001; if a fit came to such a table, try another start or fewer regimes"
+        ),
+        1 => write!(
+            f,
+            "no data tell the mean of regime {column} (counted from 0) from the others: over the variances the readings say next to nothing of it; try smaller variances, fewer regimes or another start"
+        ),
+        _ => write!(
+            f,
+            "no data determine the AR coefficient of lag {}",
+            column as usize + 1
+        ),
     }
 }
 
-fn begun(out: &mut Text, number: usize) -> usize
-    ensures { Leads result out.new }
-{
-    count(out, 0, b"msar: refused ", number, b": ")
+// ---- a refusal
+
+// Of a model of so many regimes and this order.
+#[derive(Drop)]
+struct Meaning {
+    refusal: Refusal,
+    regimes: usize,
+    order: usize,
+}
+
+impl Display for Meaning {
+    fn fmt<W: Write>(&self, f: &mut Formatter<W>) -> fmt::Result {
+        self.of_spec(f)
+    }
+}
+
+impl Meaning {
+    // Of the spec, the series or the memory; else of what follows.
+    fn of_spec<W: Write>(&self, f: &mut Formatter<W>) -> fmt::Result {
+        let refusal = self.refusal;
+        match refusal {
+            Refusal::FewRegimes(k) => write!(
+                f,
+                "a model has at least 2 regimes, and this one has {k}"
+            ),
+            Refusal::ManyWindows(k) => write!(
+                f,
+                "{k} regimes with this order have more than 256 windows (regimes to the power order + 1): lower the order"
+            ),
+            Refusal::ManyRegimes(k) => write!(
+                f,
+                "a model has at most 16 regimes, and this one has {k}"
+            ),
+            Refusal::ShortSeries(needed) => write!(
+                f,
+                "the series has too few readings for the order: at least {needed} are needed"
+            ),
+            Refusal::LongSeries(t) => write!(
+                f,
+                "the series has {t} readings, and 4096 are the most"
+            ),
+            Refusal::Reading(n) | Refusal::Memory(n) => write!(
+                f,
+                "so many readings and windows need more memory than the program has, {n} numbers: take fewer readings or a lower order (msar check says how many readings every command takes)"
+            ),
+            _ => self.of_counts(f),
+        }
+    }
+
+    // Of the counts of the parameters.
+    fn of_counts<W: Write>(&self, f: &mut Formatter<W>) -> fmt::Result {
+        let refusal = self.refusal;
+        match refusal {
+            Refusal::FewMeans(count) => write!(
+                f,
+                "there are {count} means, and a model has at least 2"
+            ),
+            Refusal::Beyond(count) => write!(
+                f,
+                "there are more than 16 means, or the order is above 7: {count}"
+            ),
+            Refusal::Length(expected) => write!(
+                f,
+                "a count of numbers or lines does not fit the regimes and the order: expected {expected}"
+            ),
+            Refusal::NoAr => write!(f, "there is no line `ar`"),
+            Refusal::Shape => write!(f, "the parameters do not have the spec's shape"),
+            _ => self.of_numbers(f),
+        }
+    }
+
+    // Of their numbers.
+    fn of_numbers<W: Write>(&self, f: &mut Formatter<W>) -> fmt::Result {
+        let refusal = self.refusal;
+        match refusal {
+            Refusal::Mean(i, x) => write!(
+                f,
+                "the mean of regime {i} is {}, and has to be finite",
+                shown(x)
+            ),
+            Refusal::Transition(e, x) => of_entry(f, e, self.regimes, x),
+            Refusal::Column(j, sum) => write!(
+                f,
+                "column {j} of the transition table (counted from 0) adds up to {}, and not to 1",
+                shown(sum)
+            ),
+            Refusal::Ar(i, x) => of_coefficient(f, i, self.order, x),
+            Refusal::Variance(i, x) => write!(
+                f,
+                "variance {i} is {} (counted from 0), and has to be finite and above 0",
+                shown(x)
+            ),
+            Refusal::Share(i, x) => write!(
+                f,
+                "the stationary share of regime {i} is {}: not finite, or below 0; see that every regime can be reached from the others",
+                shown(x)
+            ),
+            _ => self.of_run(f),
+        }
+    }
+
+    // Of the run.
+    fn of_run<W: Write>(&self, f: &mut Formatter<W>) -> fmt::Result {
+        let refusal = self.refusal;
+        match refusal {
+            Refusal::Singular(which, column) => of_system(f, which, column),
+            Refusal::OrderZero => write!(
+                f,
+                "a fit needs an order of at least 1: write `order 1` and `ar 0`, and EM finds the coefficient"
+            ),
+            Refusal::SampleVariance(x) => write!(
+                f,
+                "the sample variance of the readings is {}, and a fit needs readings that vary (and whose squares are finite)",
+                shown(x)
+            ),
+            Refusal::OtherRule => write!(f, "there is no such rule: take 1 or 2"),
+            _ => write!(f, "the log-likelihood is not finite"),
+        }
+    }
 }
 
 // A refusal of a model of k regimes and this order, with a hint behind it.
 pub fn refused(rt: &impl EprintBytes, r: Refusal, k: usize, order: usize, hint: &[u8]) {
-    let mut out = put::blank();
-    let n = begun(&mut out, r.number());
-    let n = meaning(&mut out, n, r, k, order);
-    let n = put::bytes(&mut out, n, hint);
-    let n = put::bytes(&mut out, n, b"\n");
-    host_io::complain(rt, &out[..n]);
+    let meaning = Meaning {
+        refusal: r,
+        regimes: k,
+        order,
+    };
+    let mut out = Text::new();
+    let _ = write!(out, "msar: refused {}: {meaning}", r.number());
+    out.bytes(hint);
+    out.say_line(rt);
 }
 
 // ---- a reading
 
-// A reading that is refused: 6 where it is not finite, else 23.
-pub fn reading(rt: &impl EprintBytes, number: usize, t: usize, line: u64, x: f64) {
-    let mut out = put::blank();
-    let n = begun(&mut out, number);
-    let n = count(&mut out, n, b"reading ", t, b" (line ");
-    let n = put::whole(&mut out, n, line);
-    let n = put::bytes(&mut out, n, b") is ");
-    let n = put::figure(&mut out, n, x, 15);
-    let n = explained(&mut out, n, number);
-    host_io::complain(rt, &out[..n]);
-}
-
-fn explained(out: &mut Text, n: usize, number: usize) -> usize
-    ensures { Leads result out.new }
-{
-    if number == 6 {
-        return put::bytes(out, n, b", and a reading has to be finite\n");
-    }
-    put::bytes(
+// Reading t, which stands on this line, is refused: it is not finite, or no regime explains it.
+pub fn reading(rt: &impl EprintBytes, r: Refusal, t: usize, line: u64, x: f64) {
+    let mut out = Text::new();
+    let _ = write!(
         out,
-        n,
-        b": no regime of the model explains it, its likelihood is 0 or not finite. If it was read wrongly, leave it out; if the driver is dead or muted, that is the verdict; else give the model a regime with such a mean, or larger variances\n",
-    )
+        "msar: refused {}: reading {t} (line {line}) is {}",
+        r.number(),
+        shown(x)
+    );
+    if let Refusal::Reading(_) = r {
+        out.bytes(b", and a reading has to be finite");
+    } else {
+        out.bytes(
+            b": no regime of the model explains it, its likelihood is 0 or not finite. If it was read wrongly, leave it out; if the driver is dead or muted, that is the verdict; else give the model a regime with such a mean, or larger variances",
+        );
+    }
+    out.say_line(rt);
 }

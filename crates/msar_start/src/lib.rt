@@ -7,18 +7,10 @@
 ghost use Rattle.std.specs.Prelude.{◌≤◌, length};
 
 use params::MsarParams;
-use text_words::least;
+use values::Groups;
 
 mod steps;
 mod values;
-
-// So many AR coefficients stand in all blocks.
-fn ar_count(blocks: usize, p: usize) -> usize
-    requires { (blocks ≤ 16) × (p ≤ 7) }
-    ensures { result ≤ 112 }
-{
-    blocks * p
-}
 
 // The parameters of the recipe, once the sizes are within bounds.
 fn bounded(
@@ -31,19 +23,23 @@ fn bounded(
 ) -> MsarParams
     requires { (length y.now ≤ 4096) × (k ≤ 16) × (p ≤ 7) × (blocks ≤ 16) }
 {
-    let mut labels = [0usize; 4096];
+    let mut labels = [0; 4096];
     let means = msar_start_groups::split(y, k, i, &mut labels);
-    let transition = steps::transition(i, &labels, y.len(), k);
-    let ar = values::coefficients(i, y, p, &labels, &means);
-    let variances = values::variances(y, k, p, &labels, &means, &ar, switching_variance);
-    let ar_count = ar_count(blocks, p);
+    let groups = Groups {
+        y,
+        labels: &labels[..y.len()],
+        means: &means,
+    };
+    let ar = groups.coefficients(i, p);
+    let ar = &ar[..p];
+    let ar_count = blocks * p;
     MsarParams {
-        transition,
+        transition: steps::transition(i, groups.labels, k),
         means,
-        ar: values::repeated(&ar, p, ar_count),
-        variances,
+        ar: values::repeated(ar, ar_count),
+        variances: groups.variances(k, ar, switching_variance),
         means_count: k,
-        transition_count: steps::cells(k),
+        transition_count: k * k,
         ar_blocks: blocks,
         order: p,
         ar_count,
@@ -60,36 +56,34 @@ pub fn recipe(
     switching_variance: bool,
     ar_blocks: usize,
 ) -> MsarParams {
-    let regimes = least(k, 16);
-    let order = least(p, 7);
-    let blocks = least(ar_blocks, 16);
-    let n = least(y.len(), 4096);
-    bounded(i, &y[..n], regimes, order, switching_variance, blocks)
+    let n = y.len().min(4096);
+    bounded(
+        i,
+        &y[..n],
+        k.min(16),
+        p.min(7),
+        switching_variance,
+        ar_blocks.min(16),
+    )
 }
 
 // ---- which of two fits is kept
-
-fn is_far_below(variances: &[f64; 16], count: usize) -> bool
-    requires { count ≤ 16 }
-{
-    let mut largest = variances[0];
-    let mut smallest = variances[0];
-    for g in 1..count {
-        if variances[g] > largest {
-            largest = variances[g];
-        }
-        if variances[g] < smallest {
-            smallest = variances[g];
-        }
-    }
-    smallest < 0.001 * largest
-}
 
 // A regime that has drawn itself together on a few readings: its variance is below 1e-3 of the largest one. With switching variances the
 // likelihood has no bound there, so that the log-likelihood says nothing.
 pub fn is_collapsed(q: MsarParams) -> bool {
     let variances = q.variances;
-    is_far_below(&variances, least(q.variances_count, 16))
+    let mut largest = variances[0];
+    let mut smallest = variances[0];
+    for variance in &variances[..q.variances_count.min(16)] {
+        if *variance > largest {
+            largest = *variance;
+        }
+        if *variance < smallest {
+            smallest = *variance;
+        }
+    }
+    smallest < 0.001 * largest
 }
 
 // Whether the new fit takes the place of the one kept: one that has not collapsed before one that has, then by the log-likelihood. Equal

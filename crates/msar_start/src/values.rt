@@ -1,59 +1,41 @@
 // AR coefficients by Yule and Walker, and variances of the residuals, from the labels and the groups' means.
-ghost use Rattle.std.specs.Prelude.{◌≤◌, ◌<◌, length};
+ghost use Rattle.std.specs.Prelude.{◌≡◌, ◌≤◌, ◌<◌, length};
 
-use msar_start_groups::label_at;
+use msar_start_groups::{Sum, label_at};
+
+// The readings, the label of each, and the means of the groups.
+#[derive(Clone, Copy)]
+pub struct Groups<'a> {
+    pub y: &'a [f64],
+    pub labels: &'a [usize],
+    pub means: &'a [f64; 16],
+    ghost labelled: { length labels.now ≡ length y.now },
+    ghost few: { length y.now ≤ 4096 },
+}
 
 // ---- coefficients
 
-// Reading t, less its group's mean.
-fn deviation(y: &[f64], labels: &[usize; 4096], means: &[f64; 16], t: usize) -> f64
-    requires { (length y.now ≤ 4096) × (t < length y.now) }
+// What the coefficients so far leave of the covariance of the next lag.
+fn unexplained(sums: &[f64; 8], ar: &[f64]) -> f64
+    requires { length ar.now < 7 }
 {
-    y[t] - means[label_at(labels, t)]
-}
-
-// The deviations, each times the one `lag` before it, summed and divided by nothing: this is what makes the coefficients stationary.
-fn covariance(y: &[f64], labels: &[usize; 4096], means: &[f64; 16], lag: usize) -> f64
-    requires { length y.now ≤ 4096 }
-{
-    let mut total = 0.0;
-    for t in lag..y.len() {
-        total = total + deviation(y, labels, means, t) * deviation(y, labels, means, t - lag);
-    }
-    total
-}
-
-// Those of the lags 0 to p.
-fn covariances(y: &[f64], labels: &[usize; 4096], means: &[f64; 16], p: usize) -> [f64; 8]
-    requires { (length y.now ≤ 4096) × (p ≤ 7) }
-{
-    let mut sums = [0.0; 8];
-    for lag in 0..p + 1 {
-        sums[lag] = covariance(y, labels, means, lag);
-    }
-    sums
-}
-
-// What the first n coefficients leave of the covariance of lag n + 1.
-fn unexplained(sums: &[f64; 8], ar: &[f64; 7], n: usize) -> f64
-    requires { n < 7 }
-{
+    let n = ar.len();
     let mut total = sums[n + 1];
-    for l in 0..n {
-        total = total - ar[l] * sums[n - l];
+    for (a, sum) in ar.iter().zip(sums[1..=n].iter().rev()) {
+        total = total - a * sum;
     }
     total
 }
 
-// n coefficients with one more behind them.
-fn extended(old: &[f64; 7], n: usize, reflection: f64) -> [f64; 7]
-    requires { n < 7 }
+// The coefficients with one more behind them.
+fn extended(old: &[f64], reflection: f64) -> [f64; 7]
+    requires { length old.now < 7 }
 {
     let mut ar = [0.0; 7];
-    for l in 0..n {
-        ar[l] = old[l] - reflection * old[n - 1 - l];
+    for (a, (old, mirrored)) in ar.iter_mut().zip(old.iter().zip(old.iter().rev())) {
+        *a = old - reflection * mirrored;
     }
-    ar[n] = reflection;
+    ar[old.len()] = reflection;
     ar
 }
 
@@ -67,141 +49,109 @@ fn yule_walker(sums: &[f64; 8], p: usize) -> [f64; 7]
         if !(left > 0.0) {
             return ar;
         }
-        let reflection = unexplained(sums, &ar, n) / left;
-        ar = extended(&ar, n, reflection);
+        let reflection = unexplained(sums, &ar[..n]) / left;
+        ar = extended(&ar[..n], reflection);
         left = left * (1.0 - reflection * reflection);
     }
     ar
 }
 
-// The coefficients of recipe i: Yule and Walker's, or zeros, 15 recipes each in turn.
-pub fn coefficients(
-    i: usize,
-    y: &[f64],
-    p: usize,
-    labels: &[usize; 4096],
-    means: &[f64; 16],
-) -> [f64; 7]
-    requires { (length y.now ≤ 4096) × (p ≤ 7) }
-{
-    if i / 15 % 2 == 1 {
-        return [0.0; 7];
-    }
-    let sums = covariances(y, labels, means, p);
-    yule_walker(&sums, p)
-}
-
-fn in_block(e: usize, p: usize) -> usize
-    requires { p ≤ 7 }
-    ensures { result < 7 }
-{
-    if p == 0 {
-        return 0;
-    }
-    e % p
-}
-
-// The block of p coefficients, one behind the other until there are so many.
-pub fn repeated(ar: &[f64; 7], p: usize, count: usize) -> [f64; 112]
-    requires { (p ≤ 7) × (count ≤ 112) }
+// The block of coefficients, one behind the other until there are so many.
+pub fn repeated(ar: &[f64], count: usize) -> [f64; 112]
+    requires { count ≤ 112 }
 {
     let mut blocks = [0.0; 112];
-    for e in 0..count {
-        blocks[e] = ar[in_block(e, p)];
+    for (place, a) in blocks[..count].iter_mut().zip(ar.iter().cycle()) {
+        *place = *a;
     }
     blocks
 }
 
 // ---- variances
 
-fn residual(
-    y: &[f64],
-    p: usize,
-    labels: &[usize; 4096],
-    means: &[f64; 16],
-    ar: &[f64; 7],
-    t: usize,
-) -> f64
-    requires { (length y.now ≤ 4096) × (p ≤ 7) × (p ≤ t) × (t < length y.now) }
-{
-    let mut e = deviation(y, labels, means, t);
-    for l in 0..p {
-        e = e - ar[l] * deviation(y, labels, means, t - 1 - l);
-    }
-    e
-}
-
-// The squares of residuals, and how many they are.
-#[derive(Clone, Copy)]
-struct Squares {
-    sum: f64,
-    count: f64,
-}
-
-fn of_all(y: &[f64], p: usize, labels: &[usize; 4096], means: &[f64; 16], ar: &[f64; 7]) -> Squares
-    requires { (length y.now ≤ 4096) × (p ≤ 7) }
-{
-    let mut sum = 0.0;
-    let mut count = 0.0;
-    for t in p..y.len() {
-        let e = residual(y, p, labels, means, ar, t);
-        sum = sum + e * e;
-        count = count + 1.0;
-    }
-    Squares { sum, count }
-}
-
-fn of_group(
-    y: &[f64],
-    p: usize,
-    labels: &[usize; 4096],
-    means: &[f64; 16],
-    ar: &[f64; 7],
-    g: usize,
-) -> Squares
-    requires { (length y.now ≤ 4096) × (p ≤ 7) }
-{
-    let mut sum = 0.0;
-    let mut count = 0.0;
-    for t in p..y.len() {
-        if labels[t] == g {
-            let e = residual(y, p, labels, means, ar, t);
-            sum = sum + e * e;
-            count = count + 1.0;
-        }
-    }
-    Squares { sum, count }
-}
-
+// No f64::max: a floor that is a NaN stays.
 fn at_least(x: f64, floor: f64) -> f64 {
     if x > floor { x } else { floor }
 }
 
-// One variance, of all residuals; or one for each label, with the common one counted as 5 residuals more, lest a small group begins near
-// variance 0, where the likelihood has no bound. None is below 1e-3 of the sample variance: from there EM comes down by itself, and no
-// density underflows at the start.
-pub fn variances(
-    y: &[f64],
-    k: usize,
-    p: usize,
-    labels: &[usize; 4096],
-    means: &[f64; 16],
-    ar: &[f64; 7],
-    switching: bool,
-) -> [f64; 16]
-    requires { (length y.now ≤ 4096) × (k ≤ 16) × (p ≤ 7) }
-{
-    let floor = 0.001 * em_sample_variance::sample_variance(y);
-    let all = of_all(y, p, labels, means, ar);
-    let common = at_least(all.sum / all.count, floor);
-    let mut variances = [0.0; 16];
-    if !switching {
-        variances[0] = common;
-        return variances;
+impl Groups<'_> {
+    // Reading t, less its group's mean.
+    fn deviation(self, t: usize) -> f64
+        requires { t < length self.y.now }
+    {
+        self.y[t] - self.means[label_at(self.labels, t)]
     }
-    for g in 0..k {
-        let s = of_group(y, p, labels, means, ar, g);
-        variances[g] = at_least((s.sum + 5.0 * common) / (s.count + 5.0), floor);
+
+    // The deviations, each times the one `lag` before it, summed and divided by nothing: this is what makes the coefficients stationary.
+    fn covariance(self, lag: usize) -> f64 {
+        let mut total = 0.0;
+        for t in lag..self.y.len() {
+            total = total + self.deviation(t) * self.deviation(t - lag);
+        }
+        total
     }
-    variances
+
+    // Those of the lags 0 to p.
+    fn covariances(self, p: usize) -> [f64; 8]
+        requires { p ≤ 7 }
+    {
+        let mut sums = [0.0; 8];
+        for (lag, sum) in sums[..=p].iter_mut().enumerate() {
+            *sum = self.covariance(lag);
+        }
+        sums
+    }
+
+    // The coefficients of recipe i: Yule and Walker's, or zeros, 15 recipes each in turn.
+    pub fn coefficients(self, i: usize, p: usize) -> [f64; 7]
+        requires { p ≤ 7 }
+    {
+        if i / 15 % 2 == 1 {
+            return [0.0; 7];
+        }
+        yule_walker(&self.covariances(p), p)
+    }
+
+    fn residual(self, ar: &[f64], t: usize) -> f64
+        requires { (length ar.now ≤ t) × (t < length self.y.now) }
+    {
+        let mut e = self.deviation(t);
+        for (l, a) in ar.iter().enumerate() {
+            e = e - a * self.deviation(t - 1 - l);
+        }
+        e
+    }
+
+    // The squares of the residuals, of one group or of all.
+    fn squares(self, ar: &[f64], group: Option<usize>) -> Sum {
+        let mut sum = Sum::none();
+        // an index: it names the reading's label, and the readings before it
+        for t in ar.len()..self.y.len() {
+            if group.is_none_or(|g| self.labels[t] == g) {
+                let e = self.residual(ar, t);
+                sum.add(e * e);
+            }
+        }
+        sum
+    }
+
+    // One variance, of all residuals; or one for each label, with the common one counted as 5 residuals more, lest a small group begins near
+    // variance 0, where the likelihood has no bound. None is below 1e-3 of the sample variance: from there EM comes down by itself, and no
+    // density underflows at the start.
+    pub fn variances(self, k: usize, ar: &[f64], switching: bool) -> [f64; 16]
+        requires { k ≤ 16 }
+    {
+        let floor = 0.001 * em_sample_variance::sample_variance(self.y);
+        let common = at_least(self.squares(ar, None).mean(), floor);
+        let mut variances = [0.0; 16];
+        if !switching {
+            variances[0] = common;
+            return variances;
+        }
+        for (g, variance) in variances[..k].iter_mut().enumerate() {
+            let s = self.squares(ar, Some(g));
+            *variance = at_least((s.total + 5.0 * common) / (s.count + 5.0), floor);
+        }
+        variances
+    }
 }

@@ -1,4 +1,4 @@
--- where a row's probability stands, and what lies beyond the table
+-- the last row, where there is one
 pub mod Places
 -- the run: for a loop, and what it says of the rows
 pub mod Runs

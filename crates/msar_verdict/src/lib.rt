@@ -4,7 +4,7 @@
 ghost use Rattle.std.specs.Prelude.{◌≡◌};
 ghost use Rattle.msar_verdict.specs.Verdict.{at, share_of, run_of, last_of, needed_of, verdict_of, finding_of};
 
-#[derive(Clone, Copy)]
+#[derive(Clone, Copy, PartialEq, Eq)]
 pub enum Verdict {
     No,
     NotSettled,
@@ -27,27 +27,24 @@ pub struct Finding {
 fn entry(table: &[f64], e: usize) -> f64
     ensures { result ≡ at table.now e }
 {
-    if e < table.len() {
-        return table[e];
-    }
-    0.0
+    table.get(e).copied().unwrap_or(0.0)
 }
 
 // The probability of label r in a row, for numbers of any size: what would wrap lies beyond the table.
 fn share(table: &[f64], row: usize, k: usize, r: usize) -> f64
     ensures { result ≡ share_of table.now k r row }
 {
-    if k == 0 {
-        return entry(table, r);
-    }
-    if row > table.len() / k {
+    let Some(from) = row.checked_mul(k) else {
         return 0.0;
-    }
-    let from = row * k;
-    entry(&table[from..], r)
+    };
+    let Some(e) = from.checked_add(r) else {
+        return 0.0;
+    };
+    entry(table, e)
 }
 
-// The run of label r, counted from the last row back to the first that is not above one half.
+// The run of label r, counted from the last row back to the first that is not above one half. A loop, as the count is both what
+// is tested and what is answered.
 pub fn run(table: &[f64], n: usize, k: usize, r: usize) -> usize
     ensures { result ≡ run_of table.now k r n }
 {
@@ -60,6 +57,7 @@ pub fn run(table: &[f64], n: usize, k: usize, r: usize) -> usize
 }
 
 // The probability at the end.
+#[tactic(auto, using(crate::proofs::Places::no_row, crate::proofs::Places::last_row))]
 fn last(table: &[f64], n: usize, k: usize, r: usize) -> f64
     ensures { result ≡ last_of table.now k r n }
 {
@@ -84,6 +82,7 @@ pub fn needed(duration: f64) -> usize
     30
 }
 
+#[tactic(auto, unfolding(crate::specs::Verdict::verdict_of))]
 fn verdict_of(run: usize, needed: usize) -> Verdict
     ensures { result ≡ verdict_of run needed }
 {

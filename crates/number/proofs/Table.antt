@@ -9,7 +9,8 @@ use native.Mathlib.Decide.{dec_le, ℕ_discrete}
 use native.Mathlib.Omega.{arith}
 use lib.Arith.{digits_lt}
 use lib.ListN.{length, get_or, set, take, drop, length-set, length-append, length-drop, length-take, take-append-drop, get_or-append}
-use lib.Seq.{length-take-le, drop-cons, set_at, get_or-append-add, get_or_at, get_or-drop, get_or-take, set-append_left, take-set-lt, drop-set-lt, drop-append-add, drop-drop, take_at, ext_get_or, get_or-set_same, get_or-set_other}
+use lib.Seq.{length-take-le, drop-cons, set_at, get_or-append-add, get_or_at, get_or-drop, get_or-take, set-append_left, take-set-lt, drop-set-lt, drop-append-add, drop-drop, take_at, take-suc, ext_get_or, get_or-set_same, get_or-set_other}
+use borrow.Rule.Slice.PartMut.{put_mid}
 use lib.Ieee.{Float, nan}
 use Rattle.number.specs.Table.{◌!◌, tab, fill_at}
 
@@ -60,7 +61,7 @@ module _ (s : ℕ) (f : ℕ → Float) where
 
   module _ (n : ℕ) (l : List Float) where
     -- what stands before the places that are left as they were
-    front_long : s ≤ length l → length (take s l ++ tab f n) ≡ s + n
+    pub front_long : s ≤ length l → length (take s l ++ tab f n) ≡ s + n
     front_long h = simp (length-append, length_tab, length-take-le s l h)
 
     pub fill_at_ext : (g : ℕ → Float) → ((i : ℕ) → i < n → f i ≡ g i) → fill_at s f n l ≡ fill_at s g n l
@@ -124,6 +125,19 @@ module _ (s : ℕ) (f : ℕ → Float) where
         let q : length (take s l ++ tab f n) + (u - (s + n)) ≡ u = rw (front_long k) (omega arith) in
         let q' : s + n + (u - (s + n)) ≡ u = omega arith in
         rw q at (drop-append-add (take s l ++ tab f n) (drop (s + n) l) (u - (s + n))) ∙ rw q' at (drop-drop (u - (s + n)) (s + n) l)
+
+-- n places of a list from place a on, as a row
+pub part_tab : (l : List Float) (a : ℕ) (f : ℕ → Float) (n : ℕ) → a + n ≤ length l → ((i : ℕ) → i < n → l ! (a + i) ≡ f i) → take n (drop a l) ≡ tab f n
+unfolding tab
+part_tab l a f zero h k = refl
+part_tab l a f (suc n) h k =
+    let m : n < length (drop a l) = rw length-drop (omega arith) in
+    take-suc (drop a l) n nan m ∙ rw (part_tab l a f n (omega arith) (λ i b. k i (omega arith)), get_or-drop, k n (omega arith))
+
+-- the n places from s on written as one part, as a slice lent and given back
+pub fill_at_put : (s : ℕ) (f : ℕ → Float) (n : ℕ) (l : List Float) {k : ℕ} {ys : List Float} → k ≡ n → ys ≡ tab f n → put_mid s k l ys ≡ fill_at s f n l
+unfolding fill_at
+fill_at_put s f n l e e' = rw (e, e', append_assoc, drop-drop)
 
 -- a row of n and a row of c more
 pub tab_join : {A : Type 0} (f g : ℕ → A) (n c : ℕ) → ((i : ℕ) → i < c → g i ≡ f (n + i)) → tab f n ++ tab g c ≡ tab f (n + c)

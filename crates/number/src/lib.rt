@@ -12,10 +12,10 @@ ghost use Rattle.number.specs.Tests.{holds, first_not};
 pub fn pattern(x: f64) -> u64
     ensures { result ≡ pattern_of x }
 {
-    if x != x {
+    if x.is_nan() {
         return 0x7ff8_0000_0000_0000;
     }
-    f64::to_bits(x)
+    x.to_bits()
 }
 
 // The number of a bit pattern, a NaN for each of a NaN's patterns.
@@ -23,7 +23,7 @@ pub fn of_pattern(n: u64) -> f64
     ensures { result ≡ float n }
 {
     if n % 0x8000_0000_0000_0000 > 0x7ff0_0000_0000_0000 {
-        return 0.0 / 0.0;
+        return f64::NAN;
     }
     f64::from_bits(n)
 }
@@ -40,21 +40,14 @@ pub fn of_whole(n: u64) -> f64
 pub fn magnitude(x: f64) -> f64
     ensures { result ≡ magnitude_of x }
 {
-    if x < 0.0 {
-        return -x;
-    }
-    // clears the sign of -0, and leaves every other number as it is
-    if x == 0.0 {
-        return 0.0;
-    }
-    x
+    x.abs()
 }
 
-// Rust's `is_finite`: of an infinity or a NaN the difference is a NaN.
+// Rust's `is_finite`.
 pub fn is_finite(x: f64) -> bool
     ensures { result ≡ finite x }
 {
-    x - x == 0.0
+    x.is_finite()
 }
 
 // Finite and above zero: what a variance, a likelihood and a scale must be.
@@ -68,10 +61,10 @@ pub fn is_usable(x: f64) -> bool
 pub fn max(x: f64, y: f64) -> f64
     ensures { result ≡ max_of x y }
 {
-    if x != x {
+    if x.is_nan() {
         return y;
     }
-    if y != y {
+    if y.is_nan() {
         return x;
     }
     if x < y {
@@ -89,6 +82,8 @@ pub fn max(x: f64, y: f64) -> f64
 // ---- rows
 
 // What each number of a row must be: finite, finite and above zero, or finite and between two bounds, which it may equal.
+// A test by name and no closure: that `first_failing` has one outcome is a theorem (crates/promises, BetweenCrates), and not true of
+// every closure.
 #[derive(Clone, Copy)]
 pub enum Test {
     Finite,
@@ -111,12 +106,7 @@ pub fn first_failing(test: Test, row: &[f64], n: usize) -> usize
     requires { n ≤ length row.now }
     ensures { result ≡ first_not (λ i. holds test (row.now ! i)) n }
 {
-    for i in 0..n {
-        if !passes(test, row[i]) {
-            return i;
-        }
-    }
-    n
+    row[..n].iter().position(|x| !passes(test, *x)).unwrap_or(n)
 }
 
 // The first n numbers of one row, to the places of another from `at` on.
@@ -124,7 +114,5 @@ pub fn copy(from: &[f64], n: usize, to: &mut [f64], at: usize)
     requires { (n ≤ length from.now) × (at + n ≤ length to.old) }
     ensures { to.new ≡ fill_at at (λ i. from.now ! i) n to.old }
 {
-    for i in 0..n {
-        to[at + i] = from[i];
-    }
+    to[at..at + n].copy_from_slice(&from[..n]);
 }

@@ -9,8 +9,7 @@ use Rattle.number.specs.Table.{◌!◌, tab, fill_at}
 use Rattle.number.proofs.Sums.{sum_ext}
 use Rattle.number.proofs.Table.{length_tab, get_d_tab}
 use Rattle.refusal.proofs.Each.{each_ext}
-use Rattle.refusal.specs.Checks.{each}
-use Rattle.refusal.specs.declared.Check.TheVariants.{Passed}
+use Rattle.refusal.specs.Checks.{Passed, each}
 use Rattle.params.specs.declared.MsarParams.{MsarParams}
 use Rattle.params.specs.Parameters.{k}
 use Rattle.params.specs.Checks.{mean_check, entry_check, column_sum, column_check, ar_check, variance_check, parameter_check}

@@ -8,8 +8,7 @@ use lib.Count.{count_trailing_zeros}
 use lib.Ieee.{Float, inf, nan, lt, le, eq, of_bits, mul, add, sub, neg, sum, round, size, units, odd, span, climb, of_fields}
 use Rattle.number.specs.Number.{float, zero⁺, half, one, magnitude_of, usable}
 use Rattle.number.specs.Sums.{sum_up}
-use Rattle.refusal.specs.Checks.{each}
-use Rattle.refusal.specs.declared.Check.TheVariants.{Failed}
+use Rattle.refusal.specs.Checks.{Failed, each}
 use Rattle.refusal.specs.declared.Refusal.TheVariants.{FewMeans, Beyond, Mean, Length, Transition, NoAr, Ar, Variance}
 use Rattle.params.specs.declared.MsarParams.{MsarParams}
 use Rattle.params.specs.Checks.{is_probability, column_sum, mean_check, entry_check, column_check, ar_check, variance_check, parameter_check}

@@ -1,7 +1,5 @@
 -- what a test on a count says of it
 pub mod Tests
--- the checks at each place of an array
-pub mod Places
 -- the checks in their order, part by part
 pub mod Order
 -- where the checks pass, the counts lie within the arrays

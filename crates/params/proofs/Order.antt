@@ -1,20 +1,19 @@
 -- The checks in their order, taken together part by part, as the code makes them. Assumes nothing.
+use Rattle.std.specs.Prelude.{Ok, Err}
 use mathlib.Core.Path.{◌≡◌, refl}
 use mathlib.Core.Bool.{not, ◌||◌}
 use Prim.Native.Nat.{◌*◌, ◌≤◌, ◌<◌}
 use borrow.Author.Tests.{lt-ltb, le-ltb}
 use Rattle.number.specs.Number.{◌=?◌}
-use Rattle.refusal.specs.Checks.{◌before◌, ◌when◌, each}
+use Rattle.refusal.specs.Checks.{Check, Failed, ◌when◌, ◌before◌, each}
 use Rattle.refusal.specs.declared.Refusal.TheVariants.{FewMeans, Beyond, Length, NoAr}
-use Rattle.refusal.specs.declared.Check.{Check}
-use Rattle.refusal.specs.declared.Check.TheVariants.{Passed, Failed}
 use Rattle.params.specs.declared.MsarParams.{MsarParams}
 use Rattle.params.specs.Parameters.{k, p}
 use Rattle.params.specs.Checks.{mean_check, entry_check, column_check, ar_check, variance_check, parameter_check}
 
 pub before_assoc : (a b c : Check) → ((a before b) before c) ≡ (a before b before c)
-before_assoc Passed b c = refl
-before_assoc (Failed r) b c = refl
+before_assoc (Ok _) b c = refl
+before_assoc (Err r) b c = refl
 
 module _ (q : MsarParams) where
   pub few : k q < 2 → Failed (FewMeans (k q)) ≡ parameter_check q

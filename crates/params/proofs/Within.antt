@@ -5,9 +5,8 @@ use Prim.Native.Nat.{◌≤◌, ◌*◌}
 use native.Mathlib.Nat.{mul-le-mul}
 use borrow.Author.Tests.{eqb-true, ltb-false, not-false}
 use Rattle.number.specs.Number.{◌<?◌, ◌=?◌}
-use Rattle.refusal.specs.Checks.{◌when◌, each}
+use Rattle.refusal.specs.Checks.{Passed, ◌when◌, each}
 use Rattle.refusal.specs.declared.Refusal.TheVariants.{FewMeans, Beyond, Length, NoAr}
-use Rattle.refusal.specs.declared.Check.TheVariants.{Passed}
 use Rattle.params.specs.declared.MsarParams.{MsarParams}
 use Rattle.params.specs.Parameters.{k, p}
 use Rattle.params.specs.Checks.{mean_check, entry_check, column_check, ar_check, parameter_check}

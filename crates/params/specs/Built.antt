@@ -1,12 +1,11 @@
 -- The record that the constructor builds: the given parameters once they pass the checks, with positive zero in the places that are not used.
--- After document 01, "Refusals by number": other answer fields of a refusal are zero, and so are unused places of fixed arrays.
-use Rattle.std.specs.Prelude.{ℕ, List, replicate, Float}
+-- After document 01, "Refusals by number": unused places of fixed arrays are zero.
+use Rattle.std.specs.Prelude.{ℕ, List, replicate, Float, Result, Ok}
 use Rattle.number.specs.Number.{zero⁺}
 use Rattle.number.specs.Table.{◌!◌, fill_at}
-use Rattle.refusal.specs.declared.Check.{Check}
-use Rattle.refusal.specs.declared.Check.TheVariants.{Passed, Failed}
+use Rattle.refusal.specs.declared.Refusal.{Refusal}
+use Rattle.refusal.specs.Checks.{◌before◌}
 use Rattle.params.specs.declared.MsarParams.{MsarParams}
-use Rattle.params.specs.declared.Built.{Built}
 use Rattle.params.specs.Checks.{parameter_check}
 
 -- so many places of which the first n are l's, the others positive zero
@@ -28,24 +27,5 @@ tidy q =
       variances_count = q.variances_count;
     }
 
-unfoldable pub nothing : MsarParams
-nothing =
-    record {
-      transition = replicate 256 zero⁺;
-      means = replicate 16 zero⁺;
-      ar = replicate 112 zero⁺;
-      variances = replicate 16 zero⁺;
-      means_count = 0;
-      transition_count = 0;
-      ar_blocks = 0;
-      order = 0;
-      ar_count = 0;
-      variances_count = 0;
-    }
-
-abbrev pub built_after : Check → MsarParams → Built
-built_after Passed q = record { check = Passed; params = tidy q }
-built_after (Failed r) q = record { check = Failed r; params = nothing }
-
-unfoldable pub built_of : MsarParams → Built
-built_of q = built_after (parameter_check q) q
+unfoldable pub built_of : MsarParams → Result MsarParams Refusal
+built_of q = parameter_check q before Ok (tidy q)

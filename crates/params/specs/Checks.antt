@@ -6,8 +6,7 @@ use Rattle.std.specs.Float.Ieee.Scale.{finite}
 use Rattle.number.specs.Number.{◌<?◌, ◌=?◌, ◌⊕◌, ◌⊖◌, float, zero⁺, one, usable, magnitude_of}
 use Rattle.number.specs.Table.{◌!◌}
 use Rattle.number.specs.Sums.{sum_up}
-use Rattle.refusal.specs.Checks.{◌before◌, ◌when◌, each}
-use Rattle.refusal.specs.declared.Check.{Check}
+use Rattle.refusal.specs.Checks.{Check, ◌when◌, ◌before◌, each}
 use Rattle.refusal.specs.declared.Refusal.TheVariants.{FewMeans, Beyond, Mean, Length, Transition, Column, NoAr, Ar, Variance}
 use Rattle.params.specs.declared.MsarParams.{MsarParams}
 use Rattle.params.specs.Parameters.{k, p, P, μ}

@@ -7,13 +7,14 @@ ghost use Rattle.params.specs.Checks.{parameter_check};
 ghost use Rattle.params.specs.Durations.{sixteen, durations_of};
 ghost use Rattle.params.specs.Built.{built_of};
 
-use refusal::{Check, Refusal, first_of};
+use refusal::Refusal;
 use spec::MsarSpec;
 
 mod checks;
 pub mod tidy;
 
-// As a caller hands them in: arrays of which as many places are used as the counts say. k is the count of means. AR
+// As a caller hands them in: arrays of which as many places are used as the counts say, counts that the checks refuse where they
+// are wrong. k is the count of means. AR
 // coefficients come in blocks of `order`; they switch with the regime exactly where there is not one block, and so the
 // variance.
 #[derive(Clone, Copy)]
@@ -30,29 +31,13 @@ pub struct MsarParams {
     pub variances_count: usize,
 }
 
-// A record that passed the checks and holds +0 in the places that are not used, or the refusal beside a record of zeros.
-#[derive(Clone, Copy)]
-pub struct Built {
-    pub check: Check,
-    pub params: MsarParams,
-}
-
-// The expected durations, or the refusal that stands in their place.
-#[derive(Clone, Copy)]
-pub struct Durations {
-    pub check: Check,
-    pub values: [f64; 16],
-}
-
 impl MsarParams {
-    // The constructor: the parts come as a record, because they are ten.
-    pub fn new(given: MsarParams) -> Built
+    // The constructor: the parts come as a record, because they are ten. It holds +0 in the places that are not used.
+    pub fn new(given: MsarParams) -> Result<MsarParams, Refusal>
         ensures { result ≡ built_of given }
     {
-        if let Check::Failed(r) = given.check() {
-            return tidy::refused(r);
-        }
-        tidy::passed(given)
+        given.check()?;
+        Ok(tidy::tidied(given))
     }
 
     pub fn k_regimes(self) -> usize
@@ -79,51 +64,50 @@ impl MsarParams {
         self.variances_count != 1
     }
 
+    // The spec that the parameters fit.
+    fn shape(self) -> MsarSpec
+        ensures { result ≡ record { k_regimes = k self; order = p self; switching_ar = switches self.ar_blocks; switching_variance = switches self.variances_count } }
+    {
+        MsarSpec {
+            k_regimes: self.means_count,
+            order: self.order,
+            switching_ar: self.switching_ar(),
+            switching_variance: self.switching_variance(),
+        }
+    }
+
     // It only compares.
     pub fn matches_spec(self, s: MsarSpec) -> bool
         ensures { result ≡ matches_spec s self }
     {
-        (self.means_count == s.k_regimes)
-            & (self.order == s.order)
-            & (self.switching_ar() == s.switching_ar)
-            & (self.switching_variance() == s.switching_variance)
+        self.shape() == s
     }
 
     // The checks of document 01, in its order. The counts are tested before they are used.
-    pub fn check(self) -> Check
+    pub fn check(self) -> Result<(), Refusal>
         ensures { result ≡ parameter_check self }
     {
         if self.means_count < 2 {
-            return Check::Failed(Refusal::FewMeans(self.means_count));
+            return Err(Refusal::FewMeans(self.means_count));
         }
         if self.means_count > 16 {
-            return Check::Failed(Refusal::Beyond(self.means_count));
+            return Err(Refusal::Beyond(self.means_count));
         }
         if self.order > 7 {
-            return Check::Failed(Refusal::Beyond(self.order));
+            return Err(Refusal::Beyond(self.order));
         }
-        let means = checks::means(self);
-        let transition = checks::transition(self);
-        let ar = checks::ar(self);
-        let variances = checks::variances(self);
-        first_of(means, first_of(transition, first_of(ar, variances)))
+        checks::means(self)?;
+        checks::transition(self)?;
+        checks::ar(self)?;
+        checks::variances(self)
     }
 
     // 1 / (1 - P[i][i]) for each label, +infinity where it stays for ever; after the checks.
-    pub fn expected_durations(self) -> Durations
+    pub fn expected_durations(self) -> Result<[f64; 16], Refusal>
         ensures { result ≡ durations_of self }
     {
-        if let Check::Failed(r) = self.check() {
-            return Durations {
-                check: Check::Failed(r),
-                values: [0.0; 16],
-            };
-        }
-        let values = stays(self);
-        Durations {
-            check: Check::Passed,
-            values,
-        }
+        self.check()?;
+        Ok(stays(self))
     }
 }
 

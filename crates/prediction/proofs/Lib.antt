@@ -1,5 +1,3 @@
--- places of the code lie within its arrays
-mod Places
 -- the labels of a window, and one turn more of a loop
 mod Turns
 -- which rule mixes at which order, and that a later row of the code is the rule's

@@ -12,10 +12,11 @@ use Rattle.number.specs.Number.{◌⊗◌}
 use Rattle.number.specs.Table.{◌!◌, fill_at}
 use Rattle.number.proofs.Table.{fill_at_join}
 use Rattle.window.specs.Windows.{label, labels}
-use Rattle.window.specs.Shape.{Shape, WindowNumber}
+use Rattle.window.specs.Shape.{WindowNumber}
+use Rattle.window.specs.declared.Sizes.{Sizes}
 use Rattle.window.proofs.Windows.{label_labels_any, label_below}
 use Rattle.params.specs.declared.MsarParams.{MsarParams}
-use Rattle.params.specs.Parameters.{P}
+use Rattle.params.specs.Parameters.{k, p}
 use Rattle.prediction.specs.Prediction.{first_to, first_prediction}
 use Rattle.prediction.specs.Steps.{first_at, step_at, sum_before, stepped_at}
 
@@ -34,28 +35,31 @@ unfolding labels
 second k p a pos h =
     label_labels_any k pos p (a / k) 0 ((div-lt_iff_lt-mul pos).1 (rw pow-suc at h)) ∙ rw (pow-zero, div-one)
 
-pub step_is : (q : MsarParams) (a : ℕ) → Shape q.means_count q.order → a < q.means_count ^ suc q.order
-    → P q (a % q.means_count) (a / q.means_count % q.means_count) ≡ step_at q a
+pub step_is : (q : MsarParams) (sizes : Sizes) → sizes.k ≡ k q → sizes.order ≡ p q → (a : ℕ) → a < sizes.windows
+    → q.transition ! (a % sizes.k * sizes.k + a / sizes.k % sizes.k) ≡ step_at q a
 unfolding step_at
-step_is q a s h =
-    rw (newest q.means_count q.order a, second q.means_count q.order a (omega (arith, s.low)) h)
+step_is q sizes ek ep a h =
+    let low : 0 < k q = rw (← ek) (let l = sizes.shape.low in omega arith) in
+    rw (newest (k q) (p q) a, second (k q) (p q) a low (rw (sizes.windows_value, ek, ep) at h), ek)
 
--- ---- the first prediction of window a, for parameters of which the code has the parts it needs
+-- ---- the first prediction of window a
 
-module _ (q : MsarParams) (shares transition : List Float) (a k p : ℕ) (ek : q.means_count ≡ k) (ep : q.order ≡ p) (et : q.transition ≡ transition) where
-  pub first_none : (s : ℕ) → s ≡ label (labels k (suc p) a) p → shares ! s ≡ first_to q shares (labels k (suc p) a) 0
+module _ (q : MsarParams) (shares : List Float) (sizes : Sizes) (a : ℕ) (ek : sizes.k ≡ k q) (ep : sizes.order ≡ p q) where
+  abbrev w : List ℕ
+  w = labels sizes.k (suc sizes.order) a
+
+  pub first_none : (s : ℕ) → s ≡ label w sizes.order → shares ! s ≡ first_to q shares w 0
   unfolding first_to
   first_none s e = rw (e, ep)
 
-  pub first_more : (l now before : ℕ) {acc : Float} → acc ≡ first_to q shares (labels k (suc p) a) l
-      → now ≡ label (labels k (suc p) a) l → before ≡ label (labels k (suc p) a) (l + 1)
-      → acc ⊗ transition ! (now * k + before) ≡ first_to q shares (labels k (suc p) a) (l + 1)
+  pub first_more : (l now before : ℕ) {acc : Float} → acc ≡ first_to q shares w l → now ≡ label w l → before ≡ label w (l + 1)
+      → acc ⊗ q.transition ! (now * sizes.k + before) ≡ first_to q shares w (l + 1)
   unfolding first_to
-  first_more l now before e e0 e1 = rw (e, e0, e1, ← ek, ← et, add-one)
+  first_more l now before e e0 e1 = rw (e, e0, e1, ek, add-one)
 
-  pub first_all : {acc : Float} → acc ≡ first_to q shares (labels k (suc p) a) p → acc ≡ first_at q shares a
+  pub first_all : {acc : Float} → acc ≡ first_to q shares w sizes.order → acc ≡ first_at q shares a
   unfolding first_at first_prediction
-  first_all e = rw (← ek, ← ep) at e
+  first_all e = rw (ek, ep) at e
 
 -- ---- a later row: block c holds the windows with c for their labels before the newest
 

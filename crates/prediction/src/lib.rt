@@ -6,13 +6,13 @@
 ghost use Rattle.std.specs.Prelude.{◌≡◌, suc, ◌+◌, ◌*◌, ◌^◌, ◌<◌, ◌≤◌, length, replicate};
 ghost use Rattle.number.specs.Number.{◌⊗◌, zero⁺};
 ghost use Rattle.number.specs.Table.{◌!◌, fill_at};
-ghost use Rattle.window.specs.Shape.{Shape, WindowNumber};
 ghost use Rattle.params.specs.declared.MsarParams.{MsarParams};
 ghost use Rattle.params.specs.Parameters.{k, p};
 ghost use Rattle.prediction.specs.Prediction.{rule_of, mixes};
 ghost use Rattle.prediction.specs.Steps.{first_at, step_at, sum_before, stepped_at, mixed_at, later_at};
 
 use params::MsarParams;
+use window::Sizes;
 
 // How the label before is taken at order zero, where it is none of the window's: label 0 stands for it, as in the Rust, or
 // it is summed over, as in the literature. From order one up the two are the same.
@@ -22,7 +22,7 @@ pub enum Rule {
     Two,
 }
 
-// The rule with this number, which the calls have found to be 1 or 2.
+// The rule with this number, which C hands in and the calls have found to be 1 or 2.
 pub fn rule_of(number: usize) -> Rule
     requires { (1 ≤ number) × (number ≤ 2) }
     ensures { result ≡ rule_of number }
@@ -44,43 +44,42 @@ fn mixes(rule: Rule, order: usize) -> bool
 }
 
 // The first prediction of window a: the share of its oldest label, times the steps from there to its newest.
-fn first_of(transition: &[f64; 256], shares: &[f64; 16], k: usize, order: usize, a: usize) -> f64
-    requires { WindowNumber k order a }
-    ensures { (q : MsarParams) → q.means_count ≡ k → q.order ≡ order → q.transition ≡ transition.now → result ≡ first_at q shares.now a }
+fn first_of(q: &MsarParams, shares: &[f64; 16], sizes: Sizes, a: usize) -> f64
+    requires { (sizes.k ≡ k q.now) × (sizes.order ≡ p q.now) × (a < sizes.windows) }
+    ensures { result ≡ first_at q.now shares.now a }
 {
-    let oldest = window::label(a, order, k, order);
+    let k = sizes.k;
+    let oldest = window::label(a, sizes.order, k, sizes.order);
     let mut acc = shares[oldest];
     // what is left of a: a step drops the newest label
     let mut rest = a;
-    for _ in 0..order {
+    for _ in 0..sizes.order {
         let now = rest % k;
         rest = rest / k;
         let before = rest % k;
-        acc = acc * transition[now * k + before];
+        acc = acc * q.transition[now * k + before];
     }
     acc
 }
 
 // The first row of predictions.
-pub fn first_row(q: MsarParams, shares: &[f64; 16], m: usize, row: &mut [f64; 256])
-    requires shape { Shape (k q) (p q) }
-    requires m_value { (m ≡ k q ^ suc (p q)) × (length row.old ≡ 256) }
-    ensures { row.new ≡ fill_at 0 (first_at q shares.now) m row.old }
+pub fn first_row(q: &MsarParams, shares: &[f64; 16], sizes: Sizes, row: &mut [f64; 256])
+    requires { (sizes.k ≡ k q.now) × (sizes.order ≡ p q.now) }
+    ensures { row.new ≡ fill_at 0 (first_at q.now shares.now) sizes.windows row.old }
 {
-    for a in 0..m {
-        row[a] = first_of(&q.transition, shares, q.means_count, q.order, a);
+    for a in 0..sizes.windows {
+        row[a] = first_of(q, shares, sizes, a);
     }
 }
 
 // P[s_0][s_1] of each window.
-pub fn steps(q: MsarParams, m: usize) -> [f64; 256]
-    requires shape { Shape (k q) (p q) }
-    requires m_value { m ≡ k q ^ suc (p q) }
-    ensures { result ≡ fill_at 0 (step_at q) m (replicate 256 zero⁺) }
+pub fn steps(q: &MsarParams, sizes: Sizes) -> [f64; 256]
+    requires { (sizes.k ≡ k q.now) × (sizes.order ≡ p q.now) }
+    ensures { result ≡ fill_at 0 (step_at q.now) sizes.windows (replicate 256 zero⁺) }
 {
-    let k = q.means_count;
+    let k = sizes.k;
     let mut row = [0.0; 256];
-    for a in 0..m {
+    for a in 0..sizes.windows {
         let now = a % k;
         // at order 0 this is 0, as rule 1 has it; rule 2 reads no step there
         let before = a / k % k;
@@ -103,12 +102,11 @@ fn sum_before(previous: &[f64; 256], c: usize, k: usize, power: usize) -> f64
 
 // k places from `at` on: the step of each window times the sum that they share.
 fn step_block(steps: &[f64; 256], sum: f64, at: usize, k: usize, row: &mut [f64; 256])
-    requires { (at + k ≤ 256) × (length row.old ≡ 256) }
+    requires { at + k ≤ 256 }
     ensures { row.new ≡ fill_at at (λ s. steps.now ! (at + s) ⊗ sum) k row.old }
 {
     for s in 0..k {
-        let step = steps[at + s];
-        row[at + s] = step * sum;
+        row[at + s] = steps[at + s] * sum;
     }
 }
 
@@ -120,7 +118,7 @@ fn stepped_row(
     power: usize,
     row: &mut [f64; 256],
 )
-    requires { (0 < k) × (k * power ≤ 256) × (length row.old ≡ 256) }
+    requires { (0 < k) × (k * power ≤ 256) }
     ensures { row.new ≡ fill_at 0 (stepped_at k power steps.now previous.now) (k * power) row.old }
 {
     for c in 0..power {
@@ -135,6 +133,7 @@ fn mixed_of(transition: &[f64; 256], previous: &[f64; 256], s: usize, k: usize) 
     ensures { result ≡ mixed_at k transition.now previous.now s }
 {
     let mut acc = 0.0;
+    // an index: it is the label before, in the table and in the row
     for x in 0..k {
         acc = acc + transition[s * k + x] * previous[x];
     }
@@ -143,7 +142,7 @@ fn mixed_of(transition: &[f64; 256], previous: &[f64; 256], s: usize, k: usize) 
 
 // The same for each label.
 fn mixed_row(transition: &[f64; 256], previous: &[f64; 256], k: usize, row: &mut [f64; 256])
-    requires { (k ≤ 16) × (length row.old ≡ 256) }
+    requires { k ≤ 16 }
     ensures { row.new ≡ fill_at 0 (mixed_at k transition.now previous.now) k row.old }
 {
     for s in 0..k {
@@ -151,7 +150,8 @@ fn mixed_row(transition: &[f64; 256], previous: &[f64; 256], k: usize, row: &mut
     }
 }
 
-// A later row of predictions, from the filtered row before it.
+// A later row of predictions, from the filtered row before it. It takes k, order and power one by one, as it serves one
+// label too, which is no shape of a model.
 pub fn later_row(
     rule: Rule,
     order: usize,
@@ -162,7 +162,7 @@ pub fn later_row(
     power: usize,
     row: &mut [f64; 256],
 )
-    requires { (0 < k) × (k ≤ 16) × (k * power ≤ 256) × (power ≡ k ^ order) × (length row.old ≡ 256) }
+    requires { (0 < k) × (k ≤ 16) × (k * power ≤ 256) × (power ≡ k ^ order) }
     ensures { row.new ≡ fill_at 0 (later_at rule order k power transition.now steps.now previous.now) (k * power) row.old }
 {
     if mixes(rule, order) {

@@ -7,8 +7,7 @@ use lib.Count.{count_trailing_zeros}
 use lib.Ieee.{Float, add, sub, mul, div, neg, lt, le, eq, sum, round, size, units, odd, span, climb, of_bits, of_fields}
 use Rattle.number.specs.Number.{zero⁺, two, magnitude_of, usable}
 use Rattle.number.specs.Sums.{sum_up}
-use Rattle.refusal.specs.Checks.{◌before◌, each}
-use Rattle.refusal.specs.declared.Check.TheVariants.{Passed, Failed}
+use Rattle.refusal.specs.Checks.{Passed, Failed, ◌before◌, each}
 use Rattle.refusal.specs.declared.Refusal.TheVariants.{SampleVariance}
 use Rattle.spec.specs.Spec.{spec_check}
 use Rattle.params.specs.Parameters.{matches_spec}

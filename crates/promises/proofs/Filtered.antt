@@ -24,9 +24,7 @@ use Rattle.window.specs.Time.{time_of}
 use Rattle.window.specs.declared.Time.{Time}
 use Rattle.window.proofs.Windows.{label_labels_any}
 use Rattle.window.proofs.Neighbours.{predecessor_below}
-use Rattle.refusal.specs.Checks.{◌when◌, each}
-use Rattle.refusal.specs.declared.Check.{Check}
-use Rattle.refusal.specs.declared.Check.TheVariants.{Passed}
+use Rattle.refusal.specs.Checks.{Check, Passed, ◌when◌, each}
 use Rattle.refusal.specs.declared.Refusal.TheVariants.{FewMeans, Beyond, Length}
 use Rattle.refusal.proofs.Checks.{both, untrue}
 use Rattle.params.specs.declared.MsarParams.{MsarParams}

@@ -25,3 +25,5 @@ pub mod EntryPoints
 pub mod OneOutcome
 -- ---- the theorems about the definitions
 pub mod Meanings
+-- sizes, by their numbers
+pub mod Unique

@@ -11,15 +11,14 @@ use Rattle.number.specs.Table.{tab}
 use Rattle.number.proofs.Sums.{sum_ext}
 use Rattle.logarithm.specs.Log.{log_of}
 use Rattle.window.specs.Windows.{labels, number}
-use Rattle.refusal.specs.Checks.{◌before◌, ◌when◌, each}
-use Rattle.refusal.specs.declared.Check.{Check}
-use Rattle.refusal.specs.declared.Check.TheVariants.{Passed, Failed}
+use Rattle.refusal.specs.Checks.{Check, Passed, Failed, ◌when◌, ◌before◌, each, check_of}
 use Rattle.refusal.specs.declared.Refusal.TheVariants.{Likelihood}
 use Rattle.spec.specs.declared.MsarSpec.{MsarSpec}
 use Rattle.params.specs.declared.MsarParams.{MsarParams}
 use Rattle.params.specs.Parameters.{k, p}
-use Rattle.stationary.specs.Stationary.{start_shares}
-use Rattle.binding.specs.Binding.{filter_need, smooth_need, rule_check, admitted_check}
+use Rattle.stationary.specs.Stationary.{start_shares, values_of}
+use Rattle.binding.specs.Binding.{filter_need, smooth_need, rule_check, admitted_check, bound_check, params_check}
+use Rattle.refusal.proofs.Checks.{both}
 use Rattle.binding.proofs.Passed.{same_shape}
 use Rattle.rows.specs.Rows.{row_of}
 use Rattle.prediction.specs.Prediction.{rule_of, mixes, later_prediction}
@@ -27,7 +26,6 @@ use Rattle.prediction.specs.declared.Rule.TheVariants.{One, Two}
 use Rattle.prediction.proofs.Rules.{mixes_none}
 use Rattle.filter.specs.Filter.{total, updated, predicted_row, filtered_row, likelihood, likelihood_check, loglik_to, row_count, filter_check, loglik_of, answer_after}
 use Rattle.calls.specs.Calls.{Outcome, run_check, run_loglik, run_answer, called, cleared, table_of, written, filtered_table, smoothed_table, smoothed_from, loglike_memory, filter_memory, smooth_memory, loglike_call, filter_call, smooth_call}
-use Rattle.calls.proofs.Admitted.{is_admitted}
 use Rattle.smoother.specs.Smoother.{smoothed_row}
 use Rattle.promises.specs.Rules as stated
 
@@ -74,11 +72,11 @@ module _ (q : MsarParams) (from_one : 1 ≤ p q) where
   module _ (y : List Float) where
     run_check_lem : run_check One q y ≡ run_check Two q y
     unfolding run_check
-    run_check_lem = ap (λ (c : Check). (start_shares q).check before c) (check_same y (start_shares q).values)
+    run_check_lem = ap (λ (c : Check). (check_of (start_shares q)) before c) (check_same y (values_of (start_shares q)))
 
     run_answer_lem : run_answer One q y ≡ run_answer Two q y
     unfolding run_answer run_loglik
-    run_answer_lem = ap₂ answer_after run_check_lem (loglik_same y (start_shares q).values)
+    run_answer_lem = ap₂ answer_after run_check_lem (loglik_same y (values_of (start_shares q)))
 
     -- a table of the same rows, left as found by the same refusals
     table_same : {rows rows' : ℕ → List Float} → rows ≡ rows' → (found : List Float)
@@ -87,11 +85,11 @@ module _ (q : MsarParams) (from_one : 1 ≤ p q) where
 
     filtered_table_lem : (found : List Float) → filtered_table One q y found ≡ filtered_table Two q y found
     unfolding filtered_table
-    filtered_table_lem = table_same (fun_ext (filtered_same y (start_shares q).values))
+    filtered_table_lem = table_same (fun_ext (filtered_same y (values_of (start_shares q))))
 
     smoothed_table_lem : (found : List Float) → smoothed_table One q y found ≡ smoothed_table Two q y found
     unfolding smoothed_table
-    smoothed_table_lem = table_same (fun_ext (smoothed_same y (start_shares q).values (row_count q y)))
+    smoothed_table_lem = table_same (fun_ext (smoothed_same y (values_of (start_shares q)) (row_count q y)))
 
 -- ---- of a call: its checks take both rules, and where they passed the parameters have the spec's order
 
@@ -101,12 +99,16 @@ unless_refused Passed work filtered smoothed e = e refl
 unless_refused (Failed r) work filtered smoothed e = refl
 
 module _ (S : MsarSpec) (y : List Float) (q : MsarParams) (from_one : 1 ≤ S.order) where
+  params_pass : (own : Check) → admitted_check S y own q ≡ Passed → params_check S q ≡ Passed
+  unfolding admitted_check
+  params_pass own d = (both own (both (bound_check S y) d).1).1
+
   -- whatever the call checks of its own
   called_same : (own : Check) (work filtered smoothed : List Float) {run run' : Outcome} → (1 ≤ p q → run ≡ run')
       → called (admitted_check S y own q) work filtered smoothed run ≡ called (admitted_check S y own q) work filtered smoothed run'
   called_same own work filtered smoothed e =
       unless_refused (admitted_check S y own q) work filtered smoothed
-      (λ d. e (subst (λ (n : ℕ). 1 ≤ n) (sym (same_shape S q (is_admitted S y refl q own d).params_pass).1) from_one))
+      (λ d. e (subst (λ (n : ℕ). 1 ≤ n) (sym (same_shape S q (params_pass own d)).1) from_one))
 
   loglike_same : (work : List Float) → loglike_call S y q 1 work ≡ loglike_call S y q 2 work
   unfolding loglike_call rule_check rule_of

@@ -1,13 +1,14 @@
 -- Document 01's twelve proved examples, computed of the definitions. Assumes nothing.
 use mathlib.Core.Path.{◌≡◌, refl, sym, ap, subst, ◌∙◌}
 use mathlib.Core.Bool.{false}
-use mathlib.Core.List.{[], ◌∷◌}
+use Rattle.std.specs.Prelude.{Result, Ok}
+use mathlib.Core.List.{List, [], ◌∷◌}
 use Prim.Native.Nat.{ℕ, zero, suc, ◌+◌, ◌-◌, ◌^◌, ◌≤◌, ◌<◌}
 use native.Mathlib.Nat.{le_of_suc-le-suc, not-suc-le-zero}
 use lib.Count.{count_trailing_zeros}
 use lib.Dec.{T, lit≤}
 use lib.ListN.{replicate}
-use lib.Ieee.{inf, binary64, fits, add, sub, mul, div, neg, lt, le, eq, sum, round, size, units, odd, span, climb, of_bits, to_bits, of_int, of_fields}
+use lib.Ieee.{Float, inf, binary64, fits, add, sub, mul, div, neg, lt, le, eq, sum, round, size, units, odd, span, climb, of_bits, to_bits, of_int, of_fields}
 use Rattle.number.specs.Number.{float, zero⁺, half, one, magnitude_of, usable}
 use Rattle.number.specs.Sums.{sum_up}
 use Rattle.number.specs.Table.{tab, fill_at}
@@ -16,13 +17,12 @@ use Rattle.rounding.specs.Sums.{good}
 use Rattle.root.specs.Root.{root_of, root_pattern, whole_root, cut}
 use Rattle.window.specs.Windows.{labels, number, successors, predecessors}
 use Rattle.refusal.specs.Refusals.{saying}
-use Rattle.refusal.specs.Checks.{each}
-use Rattle.refusal.specs.declared.Check.TheVariants.{Passed}
+use Rattle.refusal.specs.Checks.{Passed, check_of, each}
 use Rattle.spec.specs.Spec.{spec_check, window_count}
 use Rattle.params.specs.Checks.{is_probability, column_sum, mean_check, entry_check, column_check, ar_check, variance_check, parameter_check}
 use Rattle.params.specs.Durations.{duration, durations_of}
-use Rattle.stationary.specs.Stationary.{shares_of}
-use Rattle.stationary.specs.declared.Shares.{Shares}
+use Rattle.stationary.specs.Stationary.{shares_of, values_of}
+use Rattle.refusal.specs.declared.Refusal.{Refusal}
 use Rattle.stationary.proofs.Examples as shares
 use Rattle.rows.specs.Rows.{row_of, probability}
 use Rattle.prediction.specs.Prediction.{first_to, first_prediction, mixes, later_prediction}
@@ -50,7 +50,7 @@ checked : Checked
 unfolding parameter_check mean_check entry_check column_check ar_check variance_check column_sum sum_up is_probability usable each magnitude_of lt le eq of_bits mul div add sub neg sum round size units odd span climb of_fields count_trailing_zeros
 checked = record { p4 = refl; p6 = refl; p10 = refl }
 
-durations : durations_of (columns 0 three_quarters quarter zero⁺ one) ≡ record { check = Passed; values = float 0x4010_0000_0000_0000 ∷ inf false ∷ replicate 14 zero⁺ }
+durations : durations_of (columns 0 three_quarters quarter zero⁺ one) ≡ Ok (float 0x4010_0000_0000_0000 ∷ inf false ∷ replicate 14 zero⁺)
 unfolding durations_of duration fill_at tab parameter_check mean_check entry_check column_check ar_check variance_check column_sum sum_up is_probability usable each magnitude_of lt le eq of_bits mul div add sub neg sum round size units odd span climb of_fields count_trailing_zeros
 durations = refl
 
@@ -97,11 +97,11 @@ twelve =
       p2 = unfold tab labels number successors predecessors in (refl, refl);
       p3 = p3;
       p4 = rw checked.p4 (shares.values).p4;
-      p5 = λ rule y. ap (λ (s : Shares). row_of 2 1 (first_prediction (alike 1) s.values)) (shares.values).p4 ∙ first;
-      p6 = rw checked.p6 (ap (λ (s : Shares). told s.check) (shares.values).p6 ∙ (unfold of_int of_bits in refl));
+      p5 = λ rule y. ap (λ (s : Result (List Float) Refusal). row_of 2 1 (first_prediction (alike 1) (values_of s))) (shares.values).p4 ∙ first;
+      p6 = rw checked.p6 (ap (λ (s : Result (List Float) Refusal). told (check_of s)) (shares.values).p6 ∙ (unfold of_int of_bits in refl));
       p7 = unfold row_of tab labels number later_prediction mixes sum_up add mul of_bits in refl;
       p8 = p8;
-      p9 = record { spread = (variances.values).p9_spread; constant = (variances.values).p9_constant; fit = constant.p9_fit; gives = λ maxIter tol. ap (λ (x : FitOutcome). told x.answer.check) (constant.p9_fit maxIter tol) };
+      p9 = record { spread = (variances.values).p9_spread; constant = (variances.values).p9_constant; fit = constant.p9_fit; gives = λ maxIter tol. ap (λ (x : FitOutcome). told (check_of x.answer)) (constant.p9_fit maxIter tol) };
       p10 = checked.p10;
       p11 = durations;
       p12 = unfold root_of root_pattern whole_root cut size in_units of_bits to_bits in (refl, refl);

@@ -1,4 +1,5 @@
 -- What demand 3 asks first can be met: a call of `filter` with two labels, order 0, rule 2 and one reading, computed. Assumes nothing.
+use Rattle.std.specs.Prelude.{Result, Ok}
 use mathlib.Core.Path.{◌≡◌, refl, sym, ap, subst, ◌∙◌}
 use mathlib.Core.Bool.{Bool, true, false, not}
 use mathlib.Core.List.{List, [], ◌∷◌}
@@ -16,16 +17,15 @@ use Rattle.logarithm.specs.Log.{log_of, log_poly, log_close, log_mid, log_out, l
 use Rattle.exp.specs.Exp.{exp_of, exp_poly, exp_zero, exp_part, exp_scale, signed, exp_whole, exp_far, exp_near, exp_reduce, exp_large}
 use Rattle.normal.specs.Normal.{lnpdf_of}
 use Rattle.window.specs.Windows.{labels, number}
-use Rattle.refusal.specs.Checks.{◌before◌, ◌when◌, each}
-use Rattle.refusal.specs.declared.Check.TheVariants.{Passed}
+use Rattle.refusal.specs.Checks.{Passed, ◌when◌, ◌before◌, each, check_of}
 use Rattle.refusal.specs.declared.Refusal.TheVariants.{Likelihood}
 use Rattle.spec.specs.Spec.{spec_check}
 use Rattle.spec.specs.declared.MsarSpec.{MsarSpec}
 use Rattle.params.specs.declared.MsarParams.{MsarParams}
 use Rattle.params.specs.Parameters.{matches_spec}
 use Rattle.params.specs.Checks.{is_probability, column_sum, mean_check, entry_check, column_check, ar_check, variance_check, parameter_check}
-use Rattle.stationary.specs.Stationary.{solved_shares, start_shares}
-use Rattle.stationary.specs.declared.Shares.{Shares}
+use Rattle.stationary.specs.Stationary.{solved_shares, start_shares, values_of}
+use Rattle.refusal.specs.declared.Refusal.{Refusal}
 use Rattle.stationary.proofs.Examples as shares
 use Rattle.binding.specs.Binding.{reading_check, readings_check, length_check, bound_check, memory_check, rule_check, params_check, admitted_check}
 use Rattle.rows.specs.Rows.{row_of}
@@ -58,7 +58,7 @@ unfolding likelihood total weight predicted_row row_of tab labels number first_p
 likely = refl
 
 -- the shares are P4's
-from : solved_shares 2 params.transition ≡ record { check = Passed; values = start }
+from : solved_shares 2 params.transition ≡ Ok start
 from = (shares.values).p4
 
 passed : each 1 (likelihood_check Two params series start) ≡ Passed
@@ -67,10 +67,10 @@ passed = ap (λ (b : Bool). Likelihood 0 when not b) likely
 
 ran : run_check Two params series ≡ Passed
 unfolding run_check filter_check
-ran = ap (λ (s : Shares). s.check before each 1 (likelihood_check Two params series s.values)) from ∙ passed
+ran = ap (λ (s : Result (List Float) Refusal). check_of s before each 1 (likelihood_check Two params series (values_of s))) from ∙ passed
 
-shares_are : (s : ℕ) → s < 2 → NotBelow ((start_shares params).values ! s)
-shares_are s h = subst (λ (x : Shares). NotBelow (x.values ! s)) (sym from) (go s h)
+shares_are : (s : ℕ) → s < 2 → NotBelow ((values_of (start_shares params)) ! s)
+shares_are s h = subst (λ (x : Result (List Float) Refusal). NotBelow (values_of x ! s)) (sym from) (go s h)
   where
     go : (s : ℕ) → s < 2 → NotBelow (start ! s)
     go zero h = unfold lt of_bits in refl

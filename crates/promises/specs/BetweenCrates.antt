@@ -1,5 +1,6 @@
 -- Functions that are `pub` for the crates above alone: most ask what those are proved to meet, and where it is met no two outcomes satisfy the
 -- contract, as it stands in the source. After document 01, "How much a contract says". What has no field is in docs/CONTRACTS.md, "Exceptions".
+use Rattle.std.specs.Prelude.{◌≡◌, Float, Ok, Err}
 use seplogic.Ra.Ura.{Ura}
 use base.Logic.{SProp}
 use contract.Monad.{Fun}
@@ -15,9 +16,11 @@ use Rattle.window.specs.contracts.predecessor as window-predecessor
 use Rattle.window.specs.contracts.successor as window-successor
 use Rattle.window.specs.contracts.next_label as window-next_label
 use Rattle.window.specs.contracts.time_of as window-time_of
+use Rattle.window.specs.contracts.sizes.Sizes.of as window-sizes_of
 use Rattle.refusal.specs.contracts.Refusal.said as refusal-said
-use Rattle.params.specs.contracts.tidy.passed as params-passed
-use Rattle.params.specs.contracts.tidy.refused as params-refused
+use Rattle.linsolve.specs.contracts.Unsolved.column as linsolve-column
+use Rattle.rows.specs.contracts.smoothed.Smoothed.time_of as rows-time_of
+use Rattle.params.specs.contracts.tidy.tidied as params-tidied
 use Rattle.stationary.specs.contracts.solved_shares as stationary-solved_shares
 use Rattle.rows.specs.contracts.store as rows-store
 use Rattle.rows.specs.contracts.clear as rows-clear
@@ -25,6 +28,7 @@ use Rattle.rows.specs.contracts.tabulate as rows-tabulate
 use Rattle.density.specs.contracts.block_of as density-block_of
 use Rattle.density.specs.contracts.variances as density-variances
 use Rattle.density.specs.contracts.deviations as density-deviations
+use Rattle.density.specs.contracts.Scales.of as density-scales
 use Rattle.density.specs.contracts.phis_of as density-phis_of
 use Rattle.density.specs.contracts.phis as density-phis
 use Rattle.density.specs.contracts.add_lags as density-add_lags
@@ -36,7 +40,6 @@ use Rattle.prediction.specs.contracts.later_row as prediction-later_row
 use Rattle.binding.specs.contracts.filter_need as binding-filter_need
 use Rattle.binding.specs.contracts.smooth_need as binding-smooth_need
 use Rattle.calls.specs.contracts.memory as calls-memory
-use Rattle.filter.specs.contracts.refused as filter-refused
 use Rattle.filter.specs.contracts.divide as filter-divide
 use Rattle.em_sample_variance.specs.contracts.sample_variance as em_sample_variance-sample_variance
 use Rattle.em_ridge.specs.contracts.solve_or_keep as em_ridge-solve_or_keep
@@ -48,9 +51,14 @@ use Rattle.em_step.specs.contracts.step as em_step-step
 use Rattle.c_layout.specs.contracts.given.params_of as c_layout-params_of
 use Rattle.c_layout.specs.contracts.told.spell as c_layout-spell
 use Rattle.c_layout.specs.contracts.told.spell_windows as c_layout-spell_windows
+use Rattle.c_layout.specs.contracts.told.spell_loglik as c_layout-spell_loglik
 use Rattle.c_layout.specs.contracts.told.spell_fit as c_layout-spell_fit
 use Rattle.c_layout.specs.contracts.told.list as c_layout-list
 use Rattle.c_layout.specs.contracts.told.lay_out as c_layout-lay_out
+use Rattle.refusal.specs.Checks.{Failed, ◌before◌}
+use Rattle.refusal.specs.declared.Refusal.{Refusal}
+use Rattle.params.specs.declared.MsarParams.{MsarParams}
+use Rattle.filter.specs.Filter.{answer_after}
 use Rattle.promises.specs.Promised.{OneOutcome, OneOutcomeAsked, Contract}
 
 module _ (M : Type 1) (T : Ended) (c : Contract M T) where
@@ -71,10 +79,13 @@ pub record BetweenCrates (M : Type 1) : Type 2 where
   pub successor : One M window-successor.ended (λ 𝓤 𝓛. window-successor.clauses 𝓛)
   pub next_label : OneAsked M window-next_label.ended (λ 𝓤 𝓛. window-next_label.clauses 𝓛)
   pub time_of : One M window-time_of.ended (λ 𝓤 𝓛. window-time_of.clauses 𝓛)
-  -- what a refusal says, parameters tidied, a refusal beside zeros, the shares of a table
+  pub sizes_of : One M window-sizes_of.ended (λ 𝓤 𝓛. window-sizes_of.clauses 𝓛)
+  -- the column that a refusal names
+  pub column : One M linsolve-column.ended (λ 𝓤 𝓛. linsolve-column.clauses 𝓛)
+  -- what a refusal says, parameters tidied, the shares of a table; after a refusal there are no parameters, whatever they were made from
   pub said : One M refusal-said.ended (λ 𝓤 𝓛. refusal-said.clauses 𝓛)
-  pub passed : One M params-passed.ended (λ 𝓤 𝓛. params-passed.clauses 𝓛)
-  pub refused_params : One M params-refused.ended (λ 𝓤 𝓛. params-refused.clauses 𝓛)
+  pub tidied : One M params-tidied.ended (λ 𝓤 𝓛. params-tidied.clauses 𝓛)
+  pub refused_params : (r : Refusal) (q : MsarParams) → (Failed r before Ok q) ≡ Err r
   pub solved_shares : One M stationary-solved_shares.ended (λ 𝓤 𝓛. stationary-solved_shares.clauses 𝓛)
   -- rows in memory, densities, predictions, the filter's parts, the lengths needed
   pub store : One M rows-store.ended (λ 𝓤 𝓛. rows-store.clauses 𝓛)
@@ -83,6 +94,7 @@ pub record BetweenCrates (M : Type 1) : Type 2 where
   pub block_of : One M density-block_of.ended (λ 𝓤 𝓛. density-block_of.clauses 𝓛)
   pub variances : One M density-variances.ended (λ 𝓤 𝓛. density-variances.clauses 𝓛)
   pub deviations : One M density-deviations.ended (λ 𝓤 𝓛. density-deviations.clauses 𝓛)
+  pub scales : One M density-scales.ended (λ 𝓤 𝓛. density-scales.clauses 𝓛)
   pub phis_of : One M density-phis_of.ended (λ 𝓤 𝓛. density-phis_of.clauses 𝓛)
   pub phis : One M density-phis.ended (λ 𝓤 𝓛. density-phis.clauses 𝓛)
   pub add_lags : One M density-add_lags.ended (λ 𝓤 𝓛. density-add_lags.clauses 𝓛)
@@ -94,10 +106,11 @@ pub record BetweenCrates (M : Type 1) : Type 2 where
   pub filter_need : One M binding-filter_need.ended (λ 𝓤 𝓛. binding-filter_need.clauses 𝓛)
   pub smooth_need : One M binding-smooth_need.ended (λ 𝓤 𝓛. binding-smooth_need.clauses 𝓛)
   pub call_memory : One M calls-memory.ended (λ 𝓤 𝓛. calls-memory.clauses 𝓛)
-  pub refused_answer : One M filter-refused.ended (λ 𝓤 𝓛. filter-refused.clauses 𝓛)
+  pub refused_answer : (r : Refusal) (loglik : Float) → answer_after (Failed r) loglik ≡ Err r
   pub divide : One M filter-divide.ended (λ 𝓤 𝓛. filter-divide.clauses 𝓛)
   -- the EM step and its parts
   pub sample_variance : One M em_sample_variance-sample_variance.ended (λ 𝓤 𝓛. em_sample_variance-sample_variance.clauses 𝓛)
+  pub row_time : One M rows-time_of.ended (λ 𝓤 𝓛. rows-time_of.clauses 𝓛)
   pub solve_or_keep : One M em_ridge-solve_or_keep.ended (λ 𝓤 𝓛. em_ridge-solve_or_keep.clauses 𝓛)
   pub new_transition : One M em_counts-new_transition.ended (λ 𝓤 𝓛. em_counts-new_transition.clauses 𝓛)
   pub new_means : One M em_means-new_means.ended (λ 𝓤 𝓛. em_means-new_means.clauses 𝓛)
@@ -108,6 +121,7 @@ pub record BetweenCrates (M : Type 1) : Type 2 where
   pub params_of : One M c_layout-params_of.ended (λ 𝓤 𝓛. c_layout-params_of.clauses 𝓛)
   pub spell : One M c_layout-spell.ended (λ 𝓤 𝓛. c_layout-spell.clauses 𝓛)
   pub spell_windows : One M c_layout-spell_windows.ended (λ 𝓤 𝓛. c_layout-spell_windows.clauses 𝓛)
+  pub spell_loglik : One M c_layout-spell_loglik.ended (λ 𝓤 𝓛. c_layout-spell_loglik.clauses 𝓛)
   pub spell_fit : One M c_layout-spell_fit.ended (λ 𝓤 𝓛. c_layout-spell_fit.clauses 𝓛)
   pub list : One M c_layout-list.ended (λ 𝓤 𝓛. c_layout-list.clauses 𝓛)
   pub lay_out : One M c_layout-lay_out.ended (λ 𝓤 𝓛. c_layout-lay_out.clauses 𝓛)

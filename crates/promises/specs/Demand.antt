@@ -7,11 +7,11 @@ use Rattle.std.specs.Float.Ieee.{lt}
 use Rattle.number.specs.Number.{zero⁺}
 use Rattle.number.specs.Table.{◌!◌, cell}
 use Rattle.rounding.specs.NearOne.{NearOne}
-use Rattle.refusal.specs.declared.Check.TheVariants.{Passed}
+use Rattle.refusal.specs.Checks.{Passed, check_of}
 use Rattle.spec.specs.declared.MsarSpec.{MsarSpec}
 use Rattle.params.specs.declared.MsarParams.{MsarParams}
 use Rattle.params.specs.Parameters.{k, p}
-use Rattle.stationary.specs.Stationary.{start_shares}
+use Rattle.stationary.specs.Stationary.{start_shares, values_of}
 use Rattle.filter.specs.Filter.{row_count}
 use Rattle.calls.specs.Calls.{Outcome, filter_call, smooth_call}
 use Rattle.c_layout.specs.Layout.{params_of}
@@ -27,11 +27,11 @@ Demand3 q y table = (i : ℕ) → i < row_count q y → NearOne (k q) (k q ^ suc
 
 -- no share that the filter starts from is below zero
 abbrev pub SharesNotBelow : MsarParams → Type 0
-SharesNotBelow q = (s : ℕ) → s < k q → NotBelow ((start_shares q).values ! s)
+SharesNotBelow q = (s : ℕ) → s < k q → NotBelow ((values_of (start_shares q)) ! s)
 
 -- what demand 3 asks first: the call answers, and no such share is below zero
 pub record Asked (q : MsarParams) (outcome : Outcome) : Type 0 where
-  pub answers : outcome.answer.check ≡ Passed
+  pub answers : check_of outcome.answer ≡ Passed
   pub shares : SharesNotBelow q
 
 -- the same of a call from C: place 0 of `whole` is the refusal number 0 (1 stands for a place that isn't there)

@@ -25,8 +25,8 @@ use Rattle.calls.specs.Calls.{loglike_call, filter_call, smooth_call}
 use Rattle.fit.specs.Calls.{fit_call}
 use Rattle.text_decimal_read.specs.Text.{read_of}
 use Rattle.text_decimal_write.specs.Decimals.{written_of}
-use Rattle.c_layout.specs.Layout.{params_of, spelled, windows_spelled}
-use Rattle.c_interface.specs.Interface.{spec_of, durations_listed, shares_listed, left, fit_left}
+use Rattle.c_layout.specs.Layout.{params_of, spelled, windows_spelled, listed}
+use Rattle.c_interface.specs.Interface.{spec_of, left, fit_left}
 use Rattle.number.specs.contracts.pattern as number-pattern
 use Rattle.number.proofs.pattern as number-pattern-code
 use Rattle.number.specs.contracts.of_pattern as number-of_pattern
@@ -144,7 +144,7 @@ use Rattle.c_interface.proofs.msar_exp as c-exp-code
 use Rattle.c_interface.specs.contracts.msar_lnpdf as c-lnpdf
 use Rattle.c_interface.proofs.msar_lnpdf as c-lnpdf-code
 use Rattle.promises.specs.Promised.{OutcomeOf, EntryPoint}
-use Rattle.promises.specs.Types.{fn, value, table, reals, reals_mut, bytes, real_array, real_array_mut, whole_array, whole_array_mut, model, made, Check, Refusal, MsarSpec, Windows, Solution, MsarParams, Built, Durations, Shares, Bound, Answer, Fitted, Parsed, Written}
+use Rattle.promises.specs.Types.{fn, value, table, reals, reals_mut, bytes, real_array, real_array_mut, whole_array, whole_array_mut, model, made, refusable, Check, Refusal, MsarSpec, Solution, MsarParams, Sixteen, Bound, Fitted, NumberOrPlace, Text}
 
 -- Below, `fn n parameters result` is a function's type (Types.antt), with the references numbered from 0. Its arguments are a tuple in the order of its
 -- parameters, and `now x` is what a reference x refers to at entry. An outcome is the result beside a tuple of the same order: what each parameter
@@ -208,7 +208,7 @@ msar_durations_type = fn 5 (whole_array 0 tt 6 ∷ real_array 1 tt 400 ∷ real_
 
 abbrev pub msar_durations_outcome : OutcomeOf msar_durations_type
 msar_durations_outcome κs (counts, (numbers, (durations, _))) =
-    let o = durations_listed (durations_of (params_of counts.now numbers.now)) durations.now in
+    let o = listed (durations_of (params_of counts.now numbers.now)) durations.now in
     (tt, (tt, (tt, (o.values, (o.whole, (o.real, tt))))))
 
 abbrev pub msar_shares_type : Ended
@@ -216,7 +216,7 @@ msar_shares_type = fn 5 (whole_array 0 tt 6 ∷ real_array 1 tt 400 ∷ real_arr
 
 abbrev pub msar_shares_outcome : OutcomeOf msar_shares_type
 msar_shares_outcome κs (counts, (numbers, (shares, _))) =
-    let o = shares_listed (shares_of (params_of counts.now numbers.now)) shares.now in
+    let o = listed (shares_of (params_of counts.now numbers.now)) shares.now in
     (tt, (tt, (tt, (o.values, (o.whole, (o.real, tt))))))
 
 abbrev pub msar_matches_type : Ended
@@ -228,7 +228,7 @@ msar_matches_outcome κs (k, (order, (ar, (variance, (counts, (numbers, _)))))) 
 -- ---- the calls on a series: answer, work memory, tables
 
 abbrev pub loglike_type : Ended
-loglike_type = fn 2 (value MsarSpec ∷ reals 0 tt ∷ value MsarParams ∷ value usize ∷ reals_mut 1 tt ∷ []) (value Answer)
+loglike_type = fn 2 (value MsarSpec ∷ reals 0 tt ∷ value MsarParams ∷ value usize ∷ reals_mut 1 tt ∷ []) (value (refusable f64))
 
 abbrev pub loglike_outcome : OutcomeOf loglike_type
 loglike_outcome κs (s, (series, (q, (rule, (work, _))))) =
@@ -236,7 +236,7 @@ loglike_outcome κs (s, (series, (q, (rule, (work, _))))) =
     (o.answer, (tt, (tt, (tt, (tt, (o.work, tt))))))
 
 abbrev pub filter_type : Ended
-filter_type = fn 3 (value MsarSpec ∷ reals 0 tt ∷ value MsarParams ∷ value usize ∷ reals_mut 1 tt ∷ reals_mut 2 tt ∷ []) (value Answer)
+filter_type = fn 3 (value MsarSpec ∷ reals 0 tt ∷ value MsarParams ∷ value usize ∷ reals_mut 1 tt ∷ reals_mut 2 tt ∷ []) (value (refusable f64))
 
 abbrev pub filter_outcome : OutcomeOf filter_type
 filter_outcome κs (s, (series, (q, (rule, (work, (filtered, _)))))) =
@@ -244,7 +244,7 @@ filter_outcome κs (s, (series, (q, (rule, (work, (filtered, _)))))) =
     (o.answer, (tt, (tt, (tt, (tt, (o.work, (o.filtered, tt)))))))
 
 abbrev pub smooth_type : Ended
-smooth_type = fn 4 (value MsarSpec ∷ reals 0 tt ∷ value MsarParams ∷ value usize ∷ reals_mut 1 tt ∷ reals_mut 2 tt ∷ reals_mut 3 tt ∷ []) (value Answer)
+smooth_type = fn 4 (value MsarSpec ∷ reals 0 tt ∷ value MsarParams ∷ value usize ∷ reals_mut 1 tt ∷ reals_mut 2 tt ∷ reals_mut 3 tt ∷ []) (value (refusable f64))
 
 abbrev pub smooth_outcome : OutcomeOf smooth_type
 smooth_outcome κs (s, (series, (q, (rule, (work, (filtered, (smoothed, _))))))) =
@@ -252,7 +252,7 @@ smooth_outcome κs (s, (series, (q, (rule, (work, (filtered, (smoothed, _)))))))
     (o.answer, (tt, (tt, (tt, (tt, (o.work, (o.filtered, (o.smoothed, tt))))))))
 
 abbrev pub fit_type : Ended
-fit_type = fn 3 (value MsarSpec ∷ reals 0 tt ∷ value MsarParams ∷ value usize ∷ value f64 ∷ reals_mut 1 tt ∷ reals_mut 2 tt ∷ []) (value Fitted)
+fit_type = fn 3 (value MsarSpec ∷ reals 0 tt ∷ value MsarParams ∷ value usize ∷ value f64 ∷ reals_mut 1 tt ∷ reals_mut 2 tt ∷ []) (value (refusable Fitted))
 
 abbrev pub fit_outcome : OutcomeOf fit_type
 fit_outcome κs (s, (series, (start, (maxIter, (tol, (work, (smoothed, _))))))) =
@@ -262,7 +262,7 @@ fit_outcome κs (s, (series, (start, (maxIter, (tol, (work, (smoothed, _))))))) 
 -- ---- the checks of what a call is handed: 1 to 6 with the counts, 7, those of the parameters, and these behind 29
 
 abbrev pub bind_type : Ended
-bind_type = fn 1 (value MsarSpec ∷ reals 0 tt ∷ []) (value Bound)
+bind_type = fn 1 (value MsarSpec ∷ reals 0 tt ∷ []) (value (refusable Bound))
 
 abbrev pub bind_outcome : OutcomeOf bind_type
 bind_outcome κs (s, (series, _)) = (bound_of s series.now, (tt, (tt, tt)))
@@ -294,7 +294,7 @@ abbrev pub record_new_outcome : OutcomeOf record_new_type
 record_new_outcome κs (series, (s, _)) = (record { check = bound_check s series.now; model = record { series = series; spec = s } }, (tt, (tt, tt)))
 
 abbrev pub record_loglike_type : Ended
-record_loglike_type = fn 2 (model 0 tt ∷ value MsarParams ∷ value usize ∷ reals_mut 1 tt ∷ []) (value Answer)
+record_loglike_type = fn 2 (model 0 tt ∷ value MsarParams ∷ value usize ∷ reals_mut 1 tt ∷ []) (value (refusable f64))
 
 abbrev pub record_loglike_outcome : OutcomeOf record_loglike_type
 record_loglike_outcome κs (self, (q, (rule, (work, _)))) =
@@ -302,7 +302,7 @@ record_loglike_outcome κs (self, (q, (rule, (work, _)))) =
     (o.answer, (tt, (tt, (tt, (o.work, tt)))))
 
 abbrev pub record_filter_type : Ended
-record_filter_type = fn 3 (model 0 tt ∷ value MsarParams ∷ value usize ∷ reals_mut 1 tt ∷ reals_mut 2 tt ∷ []) (value Answer)
+record_filter_type = fn 3 (model 0 tt ∷ value MsarParams ∷ value usize ∷ reals_mut 1 tt ∷ reals_mut 2 tt ∷ []) (value (refusable f64))
 
 abbrev pub record_filter_outcome : OutcomeOf record_filter_type
 record_filter_outcome κs (self, (q, (rule, (work, (filtered, _))))) =
@@ -310,7 +310,7 @@ record_filter_outcome κs (self, (q, (rule, (work, (filtered, _))))) =
     (o.answer, (tt, (tt, (tt, (o.work, (o.filtered, tt))))))
 
 abbrev pub record_smooth_type : Ended
-record_smooth_type = fn 4 (model 0 tt ∷ value MsarParams ∷ value usize ∷ reals_mut 1 tt ∷ reals_mut 2 tt ∷ reals_mut 3 tt ∷ []) (value Answer)
+record_smooth_type = fn 4 (model 0 tt ∷ value MsarParams ∷ value usize ∷ reals_mut 1 tt ∷ reals_mut 2 tt ∷ reals_mut 3 tt ∷ []) (value (refusable f64))
 
 abbrev pub record_smooth_outcome : OutcomeOf record_smooth_type
 record_smooth_outcome κs (self, (q, (rule, (work, (filtered, (smoothed, _)))))) =
@@ -318,7 +318,7 @@ record_smooth_outcome κs (self, (q, (rule, (work, (filtered, (smoothed, _))))))
     (o.answer, (tt, (tt, (tt, (o.work, (o.filtered, (o.smoothed, tt)))))))
 
 abbrev pub record_fit_type : Ended
-record_fit_type = fn 3 (model 0 tt ∷ value MsarParams ∷ value usize ∷ value f64 ∷ reals_mut 1 tt ∷ reals_mut 2 tt ∷ []) (value Fitted)
+record_fit_type = fn 3 (model 0 tt ∷ value MsarParams ∷ value usize ∷ value f64 ∷ reals_mut 1 tt ∷ reals_mut 2 tt ∷ []) (value (refusable Fitted))
 
 abbrev pub record_fit_outcome : OutcomeOf record_fit_type
 record_fit_outcome κs (self, (start, (maxIter, (tol, (work, (smoothed, _)))))) =
@@ -336,13 +336,13 @@ check_of_outcome κs (s, (series, _)) = (bound_check s series.now, (tt, (tt, tt)
 -- ---- the spec, the parameters, the stationary shares
 
 abbrev pub expanded_states_type : Ended
-expanded_states_type = fn 0 (value MsarSpec ∷ []) (value Windows)
+expanded_states_type = fn 0 (value MsarSpec ∷ []) (value (refusable usize))
 
 abbrev pub expanded_states_outcome : OutcomeOf expanded_states_type
 expanded_states_outcome κs (s, _) = (window_count s.k_regimes s.order, (tt, tt))
 
 abbrev pub new_type : Ended
-new_type = fn 0 (value MsarParams ∷ []) (value Built)
+new_type = fn 0 (value MsarParams ∷ []) (value (refusable MsarParams))
 
 abbrev pub new_outcome : OutcomeOf new_type
 new_outcome κs (q, _) = (built_of q, (tt, tt))
@@ -354,7 +354,7 @@ abbrev pub check_outcome : OutcomeOf check_type
 check_outcome κs (q, _) = (parameter_check q, (tt, tt))
 
 abbrev pub expected_durations_type : Ended
-expected_durations_type = fn 0 (value MsarParams ∷ []) (value Durations)
+expected_durations_type = fn 0 (value MsarParams ∷ []) (value (refusable Sixteen))
 
 abbrev pub expected_durations_outcome : OutcomeOf expected_durations_type
 expected_durations_outcome κs (q, _) = (durations_of q, (tt, tt))
@@ -390,7 +390,7 @@ abbrev pub switching_variance_outcome : OutcomeOf switching_variance_type
 switching_variance_outcome κs (q, _) = (switches q.variances_count, (tt, tt))
 
 abbrev pub stationary_shares_type : Ended
-stationary_shares_type = fn 0 (value MsarParams ∷ []) (value Shares)
+stationary_shares_type = fn 0 (value MsarParams ∷ []) (value (refusable Sixteen))
 
 abbrev pub stationary_shares_outcome : OutcomeOf stationary_shares_type
 stationary_shares_outcome κs (q, _) = (shares_of q, (tt, tt))
@@ -494,13 +494,13 @@ max_outcome κs (x, (y, _)) = (max_of x y, (tt, (tt, tt)))
 -- ---- decimals: a text read, a number written
 
 abbrev pub read_type : Ended
-read_type = fn 1 (bytes 0 tt ∷ []) (value Parsed)
+read_type = fn 1 (bytes 0 tt ∷ []) (value NumberOrPlace)
 
 abbrev pub read_outcome : OutcomeOf read_type
 read_outcome κs (text, _) = (read_of text.now, (tt, tt))
 
 abbrev pub write_type : Ended
-write_type = fn 0 (value f64 ∷ []) (value Written)
+write_type = fn 0 (value f64 ∷ []) (value Text)
 
 abbrev pub write_outcome : OutcomeOf write_type
 write_outcome κs (x, _) = (written_of x, (tt, tt))

@@ -2,28 +2,23 @@
 -- `u8` and `usize`, or `&[f64]` and `&[f64; 100]`, have the same values in the logic and a narrower one asks more of a caller.
 use Rattle.std.specs.Prelude.{ℕ, List, []}
 use contract.Lifetimes.{Within}
-use denote.Builtin.{f64, usize, u8, SliceRef, SliceRefMut, Ref, RefMut, Array}
+use denote.Builtin.{unit, f64, usize, u8, SliceRef, SliceRefMut, Ref, RefMut, Array}
 use denote.Exit.{yes}
+use denote.Param.{number}
 use Rattle.std.specs.Borrow.{RattleType}
 use denote.Signature.{Slot, plain, named_lft}
 use denote.Triple.Clauses.{Ended}
 use denote.Triple.End.{all}
-use Rattle.refusal.specs.contracts.Check as refusal-Check
 use Rattle.refusal.specs.contracts.Refusal as refusal-Refusal
 use Rattle.spec.specs.contracts.MsarSpec as spec-MsarSpec
-use Rattle.spec.specs.contracts.Windows as spec-Windows
-use Rattle.linsolve.specs.contracts.Solution as linsolve-Solution
+use Rattle.linsolve.specs.contracts.Unsolved as linsolve-Unsolved
+use Rattle.std.specs.contracts.result.Result as std-Result
 use Rattle.params.specs.contracts.MsarParams as params-MsarParams
-use Rattle.params.specs.contracts.Built as params-Built
-use Rattle.params.specs.contracts.Durations as params-Durations
-use Rattle.stationary.specs.contracts.Shares as stationary-Shares
 use Rattle.binding.specs.contracts.Bound as binding-Bound
-use Rattle.filter.specs.contracts.Answer as filter-Answer
 use Rattle.fit.specs.contracts.Fitted as fit-Fitted
 use Rattle.record.specs.contracts.MarkovSwitchingAr as markov-MarkovSwitchingAr
 use Rattle.record.specs.contracts.Made as record-Made
-use Rattle.text_decimal_read.specs.contracts.Parsed as decimal-Parsed
-use Rattle.text_decimal_write.specs.contracts.Written as decimal-Written
+use Rattle.arrayvec.specs.contracts.array_vec.ArrayVec as arrayvec-ArrayVec
 
 -- a function with n lifetimes, these parameters and this result
 abbrev pub fn : (n : ℕ) → List (Slot n) → Slot n → Ended
@@ -72,44 +67,40 @@ module _ {n : ℕ} where
 
 -- ---- the library's structs and enums
 
-abbrev pub Check : RattleType
-Check = refusal-Check.the_row
-
 abbrev pub Refusal : RattleType
 Refusal = refusal-Refusal.the_row
+
+-- Result<T, Refusal>
+abbrev pub refusable : RattleType → RattleType
+refusable T = std-Result.the_row T Refusal
+
+-- what checks alone find: Result<(), Refusal>
+abbrev pub Check : RattleType
+Check = refusable unit
 
 abbrev pub MsarSpec : RattleType
 MsarSpec = spec-MsarSpec.the_row
 
-abbrev pub Windows : RattleType
-Windows = spec-Windows.the_row
-
+-- Result<[f64; 16], Unsolved>
 abbrev pub Solution : RattleType
-Solution = linsolve-Solution.the_row
+Solution = std-Result.the_row (Array f64 tt 16) linsolve-Unsolved.the_row
 
 abbrev pub MsarParams : RattleType
 MsarParams = params-MsarParams.the_row
 
-abbrev pub Built : RattleType
-Built = params-Built.the_row
-
-abbrev pub Durations : RattleType
-Durations = params-Durations.the_row
-
-abbrev pub Shares : RattleType
-Shares = stationary-Shares.the_row
+-- sixteen numbers: [f64; 16]
+abbrev pub Sixteen : RattleType
+Sixteen = Array f64 tt 16
 
 abbrev pub Bound : RattleType
 Bound = binding-Bound.the_row
 
-abbrev pub Answer : RattleType
-Answer = filter-Answer.the_row
-
 abbrev pub Fitted : RattleType
 Fitted = fit-Fitted.the_row
 
-abbrev pub Parsed : RattleType
-Parsed = decimal-Parsed.the_row
+-- Result<f64, usize> and ArrayVec<u8, 32>
+abbrev pub NumberOrPlace : RattleType
+NumberOrPlace = std-Result.the_row f64 usize
 
-abbrev pub Written : RattleType
-Written = decimal-Written.the_row
+abbrev pub Text : RattleType
+Text = arrayvec-ArrayVec.the_row u8 (number 32) unit

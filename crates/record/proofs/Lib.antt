@@ -1,3 +1,2 @@
--- a thin function, and the record taken apart: laws on the logic, as walks by hand used them
-pub mod Apart
+-- a thin function: a law on the logic, as walks by hand used it
 pub mod Thin

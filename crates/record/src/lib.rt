@@ -6,10 +6,9 @@ ghost use Rattle.binding.specs.Binding.{bound_check};
 ghost use Rattle.calls.specs.Calls.{loglike_call, filter_call, smooth_call};
 ghost use Rattle.fit.specs.Calls.{fit_call};
 
-use filter::Answer;
 use fit::Fitted;
 use params::MsarParams;
-use refusal::Check;
+use refusal::Refusal;
 use spec::MsarSpec;
 
 // Parameters and memory come with each call, so that one record serves many.
@@ -19,19 +18,19 @@ pub struct MarkovSwitchingAr<'a> {
     spec: MsarSpec,
 }
 
-// What `new` answers: 1 to 6 beside the record, since an enum can hold no reference.
+// What `new` answers: 1 to 6, and the record whatever they are. Two results, not one or the other.
 #[derive(Clone, Copy)]
 pub struct Made<'a> {
-    pub check: Check,
+    pub check: Result<(), Refusal>,
     pub model: MarkovSwitchingAr<'a>,
 }
 
 // 1 to 6.
-fn check(s: MsarSpec, y: &[f64]) -> Check
+fn check(s: MsarSpec, y: &[f64]) -> Result<(), Refusal>
     ensures { result ≡ bound_check s y.now }
 {
-    let b = binding::bind(s, y);
-    b.check
+    binding::bind(s, y)?;
+    Ok(())
 }
 
 impl<'a> MarkovSwitchingAr<'a> {
@@ -48,7 +47,7 @@ impl<'a> MarkovSwitchingAr<'a> {
 
     // Each of these takes the record apart, and is the plain call on its parts.
 
-    pub fn loglike(self, params: MsarParams, rule: usize, work: &mut [f64]) -> Answer
+    pub fn loglike(self, params: MsarParams, rule: usize, work: &mut [f64]) -> Result<f64, Refusal>
         ensures { record { answer = result; work = work.new; filtered = []; smoothed = [] } ≡ loglike_call self.entry.spec self.entry.series.now params rule work.old }
     {
         calls::loglike(self.spec, self.series, params, rule, work)
@@ -60,7 +59,7 @@ impl<'a> MarkovSwitchingAr<'a> {
         rule: usize,
         work: &mut [f64],
         filtered: &mut [f64],
-    ) -> Answer
+    ) -> Result<f64, Refusal>
         ensures { record { answer = result; work = work.new; filtered = filtered.new; smoothed = [] } ≡ filter_call self.entry.spec self.entry.series.now params rule work.old filtered.old }
     {
         calls::filter(self.spec, self.series, params, rule, work, filtered)
@@ -73,7 +72,7 @@ impl<'a> MarkovSwitchingAr<'a> {
         work: &mut [f64],
         filtered: &mut [f64],
         smoothed: &mut [f64],
-    ) -> Answer
+    ) -> Result<f64, Refusal>
         ensures { record { answer = result; work = work.new; filtered = filtered.new; smoothed = smoothed.new } ≡ smooth_call self.entry.spec self.entry.series.now params rule work.old filtered.old smoothed.old }
     {
         calls::smooth(
@@ -94,7 +93,7 @@ impl<'a> MarkovSwitchingAr<'a> {
         tol: f64,
         work: &mut [f64],
         smoothed: &mut [f64],
-    ) -> Fitted
+    ) -> Result<Fitted, Refusal>
         ensures { record { answer = result; work = work.new; smoothed = smoothed.new } ≡ fit_call self.entry.spec self.entry.series.now start max_iter tol work.old smoothed.old }
     {
         fit::fit(self.spec, self.series, start, max_iter, tol, work, smoothed)
@@ -104,11 +103,13 @@ impl<'a> MarkovSwitchingAr<'a> {
 // ---- the record made and used once, with plain parameters, for callers that hold no record
 
 // What `new` finds.
-pub fn check_of(spec: MsarSpec, series: &[f64]) -> Check
+pub fn check_of(spec: MsarSpec, series: &[f64]) -> Result<(), Refusal>
     ensures { result ≡ bound_check spec series.now }
 {
     MarkovSwitchingAr::new(series, spec).check
 }
+
+// A function for each call, as each takes other parameters.
 
 pub fn loglike_of(
     spec: MsarSpec,
@@ -116,7 +117,7 @@ pub fn loglike_of(
     params: MsarParams,
     rule: usize,
     work: &mut [f64],
-) -> Answer
+) -> Result<f64, Refusal>
     ensures { record { answer = result; work = work.new; filtered = []; smoothed = [] } ≡ loglike_call spec series.now params rule work.old }
 {
     MarkovSwitchingAr::new(series, spec)
@@ -131,7 +132,7 @@ pub fn filter_of(
     rule: usize,
     work: &mut [f64],
     filtered: &mut [f64],
-) -> Answer
+) -> Result<f64, Refusal>
     ensures { record { answer = result; work = work.new; filtered = filtered.new; smoothed = [] } ≡ filter_call spec series.now params rule work.old filtered.old }
 {
     MarkovSwitchingAr::new(series, spec)
@@ -147,7 +148,7 @@ pub fn smooth_of(
     work: &mut [f64],
     filtered: &mut [f64],
     smoothed: &mut [f64],
-) -> Answer
+) -> Result<f64, Refusal>
     ensures { record { answer = result; work = work.new; filtered = filtered.new; smoothed = smoothed.new } ≡ smooth_call spec series.now params rule work.old filtered.old smoothed.old }
 {
     MarkovSwitchingAr::new(series, spec)
@@ -163,7 +164,7 @@ pub fn fit_of(
     tol: f64,
     work: &mut [f64],
     smoothed: &mut [f64],
-) -> Fitted
+) -> Result<Fitted, Refusal>
     ensures { record { answer = result; work = work.new; smoothed = smoothed.new } ≡ fit_call spec series.now start max_iter tol work.old smoothed.old }
 {
     MarkovSwitchingAr::new(series, spec)

@@ -33,7 +33,8 @@ pub enum Refusal {
     OtherRule,
 }
 
-// What a refusal says: its number in document 01 or 02, the place and the value that it carries, zero where it carries none.
+// What a refusal says: its number in document 01 or 02, the place and the value that it carries, zero where it carries none, as
+// the C interface hands them out.
 #[derive(Clone, Copy)]
 pub struct Said {
     pub number: usize,
@@ -41,21 +42,12 @@ pub struct Said {
     pub value: f64,
 }
 
-// What a check finds.
-#[derive(Clone, Copy)]
-pub enum Check {
-    Passed,
-    Failed(Refusal),
-}
-
 // The first refusal of two checks.
-pub fn first_of(first: Check, second: Check) -> Check
+pub fn first_of(first: Result<(), Refusal>, second: Result<(), Refusal>) -> Result<(), Refusal>
     ensures { result ≡ (first before second) }
 {
-    match first {
-        Check::Failed(r) => Check::Failed(r),
-        Check::Passed => second,
-    }
+    first?;
+    second
 }
 
 fn saying(number: usize, place: usize, value: f64) -> Said

@@ -16,8 +16,7 @@ fn by_digits(m: u64) -> u64
     let mut q: u64 = 0;
     let mut rest: u64 = 0;
     let mut low: u64 = m * 1024;
-    let mut j: u64 = 0;
-    while j < 53 {
+    for _ in 0..53u64 {
         let next = rest * 4 + low / 0x4000_0000_0000_0000;
         let trial = q * 4 + 1;
         low = low % 0x4000_0000_0000_0000 * 4;
@@ -28,7 +27,6 @@ fn by_digits(m: u64) -> u64
             rest = next;
             q = q * 2;
         }
-        j += 1;
     }
     if q < rest {
         return q + 1;
@@ -60,7 +58,7 @@ fn guess(b: u64) -> u64
     (number::pattern(below) % 0x40_0000_0000_0000 + 0x20_0000_0000_0000) % 0x40_0000_0000_0000
 }
 
-// m * 2 ^ 52 - q * q, plus 2 ^ 54; or 0, where the two are far apart. q * q is high * 2 ^ 52 + low.
+// m * 2 ^ 52 - q * q, plus 2 ^ 54; or 0, where the two are far apart, which `settled` takes for out of reach with no test of its own. q * q is high * 2 ^ 52 + low.
 fn excess(m: u64, q: u64) -> u64
     requires { (m < 2 ^ 54) × (q < 2 ^ 54) }
     ensures { (0 < result → result + q * q ≡ m * 2 ^ 52 + 2 ^ 54) × (result < 2 ^ 56) }
@@ -134,5 +132,5 @@ pub fn root(x: f64) -> f64
     if x == 0.0 {
         return x; // with its sign
     }
-    0.0 / 0.0
+    f64::NAN
 }

@@ -1,11 +1,13 @@
 -- The smoothed rows in work memory by place: the label now of place e, what it counts for and its precision. Assumes nothing.
 use Prim.Native.Nat.{ℕ, suc, ◌+◌, ◌*◌, ◌%◌, ◌^◌, ◌<◌}
-use mathlib.Core.Path.{◌≡◌}
+use mathlib.Core.Path.{◌≡◌, ◌∙◌}
 use mathlib.Core.Bool.{◌&&◌}
 use mathlib.Core.List.{List}
 use native.Mathlib.Nat.{pow-suc, mul_assoc, mul-add-mod_self_right}
 use native.Mathlib.Omega.{arith}
-use lib.Ieee.{Float}
+use lib.ListN.{take, drop}
+use lib.Ieee.{Float, nan}
+use Rattle.std.proofs.lemmas.List.{get_or-take, get_or-drop}
 use Rattle.number.specs.Number.{◌=?◌, ◌⊘◌}
 use Rattle.number.specs.Table.{◌!◌}
 use Rattle.window.specs.Windows.{labels, label}
@@ -26,6 +28,10 @@ row_label k order m i a w =
 pub precision_there : (k : ℕ) (variances work : List Float) (e s : ℕ) → e % k ≡ s → work ! e ⊘ variances ! s ≡ precision_in k variances work e
 unfolding precision_in
 precision_there k variances work e s now = rw now
+
+-- the weight of window a of a row whose m weights stand from place `from` on
+pub weight_there : (work : List Float) (from m a : ℕ) {weights : List Float} → weights ≡ take m (drop from work) → a < m → weights ! a ≡ work ! (from + a)
+weight_there work from m a e h = rw e (get_or-take m (drop from work) a nan h ∙ get_or-drop from work a nan)
 
 module _ (q : MsarParams) (pos : 0 < k q) (e : ℕ) where
   -- labels run round through all rows

@@ -1,14 +1,14 @@
 -- Places of a row that stands in memory. Assumes nothing.
-use Prim.Native.Nat.{ℕ, ◌+◌, ◌*◌, ◌<◌, ◌≤◌}
-use mathlib.Core.Path.{◌≡◌, sym}
-use mathlib.Core.List.{List}
-use native.Mathlib.Nat.{add_assoc}
+use Prim.Native.Nat.{ℕ, ◌+◌, ◌-◌, ◌*◌, ◌<◌, ◌≤◌}
+use mathlib.Core.Path.{◌≡◌, ◌∙◌}
+use mathlib.Core.List.{List, ◌++◌}
 use native.Mathlib.Omega.{arith}
-use lib.Arith.{digits_lt, digits_div, digits_mod}
-use lib.ListN.{drop}
-use lib.Seq.{get_or-drop}
+use lib.Arith.{digits_div, digits_mod}
+use lib.ListN.{length, drop, replicate, length-append, length-drop, length-replicate, get_or-append, get_or-replicate}
+use lib.Seq.{get_or-drop, get_or-append-add}
 use lib.Ieee.{Float, nan}
-use Rattle.number.specs.Table.{◌!◌}
+use Rattle.number.specs.Table.{◌!◌, fill_at}
+use Rattle.number.proofs.Table.{fill_is}
 use Rattle.rows.specs.Memory.{filtered_from}
 use Rattle.rows.specs.Steps.{label_sum, label_sum_at}
 
@@ -16,13 +16,12 @@ use Rattle.rows.specs.Steps.{label_sum, label_sum_at}
 pub place : (l : List Float) (from i : ℕ) → drop from l ! i ≡ l ! (from + i)
 place l from i = get_or-drop from l i nan
 
--- window i + j·k of a row of power·k windows
-module _ (from i j k power len : ℕ) (h : i < k) (h' : j < power) (f : from + power * k ≤ len) where
-  pub window_within : from + i + j * k < len
-  window_within = omega (arith, digits_lt h' h)
-
-pub window_place : (l : List Float) (from i j k : ℕ) → l ! (from + i + j * k) ≡ drop from l ! (i + j * k)
-window_place l from i j k = rw (add_assoc from i (j * k)) (sym (place l from (i + j * k)))
+-- n places with one number, in front of what stood behind them
+pub fill_same : (x : Float) (n : ℕ) (l : List Float) → n ≤ length l → replicate n x ++ drop n l ≡ fill_at 0 (λ _. x) n l
+fill_same x n l h =
+    fill_is (λ _. x) n l h (simp (length-append, length-replicate, length-drop) (omega arith))
+    (λ i b. get_or-append (replicate n x) (drop n l) nan i (rw length-replicate b) ∙ get_or-replicate n i x nan b)
+    (λ i b. let w : n + (i - n) ≡ i = omega arith in rw (length-replicate, w) at (get_or-append-add (replicate n x) (drop n l) (i - n) nan ∙ get_or-drop n l (i - n) nan))
 
 -- ---- the table of results, a row at a time
 

@@ -6,6 +6,10 @@ ghost use Rattle.number.specs.Number.{zero⁺};
 ghost use Rattle.number.specs.Table.{fill_at};
 ghost use Rattle.rows.specs.Steps.{label_sum, label_sum_at, stored};
 
+pub mod smoothed;
+
+pub use smoothed::Smoothed;
+
 // A row, as row j of the `kept` rows of m places that have room; behind them it is not kept.
 pub fn store(row: &[f64; 256], m: usize, j: usize, kept: usize, work: &mut [f64])
     requires { (m ≤ 256) × (kept * m ≤ length work.old) }
@@ -22,30 +26,28 @@ pub fn clear(work: &mut [f64], n: usize)
     requires { n ≤ length work.old }
     ensures { work.new ≡ fill_at 0 (λ _. zero⁺) n work.old }
 {
-    for i in 0..n {
-        work[i] = 0.0;
-    }
+    work[..n].fill(0.0);
 }
 
-// The probability of label i now, of the row that stands from `from` on; power is k^order.
-fn label_sum(work: &[f64], from: usize, i: usize, k: usize, power: usize) -> f64
-    requires { (i < k) × (from + power * k ≤ length work.now) }
-    ensures { result ≡ label_sum k power (drop from work.now) i }
+// The probability of label i now, of the row that stands first in memory; power is k^order.
+fn label_sum(work: &[f64], i: usize, k: usize, power: usize) -> f64
+    requires { (i < k) × (power * k ≤ length work.now) }
+    ensures { result ≡ label_sum k power work.now i }
 {
     let mut acc = 0.0;
     for j in 0..power {
-        acc = acc + work[from + i + j * k];
+        acc = acc + work[i + j * k];
     }
     acc
 }
 
-// The probabilities of the k labels of one row, to the places of the table from `at` on.
-fn label_sums(work: &[f64], from: usize, k: usize, power: usize, table: &mut [f64], at: usize)
-    requires { (from + power * k ≤ length work.now) × (at + k ≤ length table.old) }
-    ensures { table.new ≡ fill_at at (label_sum k power (drop from work.now)) k table.old }
+// The probabilities of the k labels of that row, to the places of the table from `at` on.
+fn label_sums(work: &[f64], k: usize, power: usize, table: &mut [f64], at: usize)
+    requires { (power * k ≤ length work.now) × (at + k ≤ length table.old) }
+    ensures { table.new ≡ fill_at at (label_sum k power work.now) k table.old }
 {
     for i in 0..k {
-        table[at + i] = label_sum(work, from, i, k, power);
+        table[at + i] = label_sum(work, i, k, power);
     }
 }
 
@@ -55,6 +57,6 @@ pub fn tabulate(work: &[f64], k: usize, power: usize, m: usize, n: usize, table:
     ensures { table.new ≡ fill_at 0 (label_sum_at k power m work.now) (n * k) table.old }
 {
     for i in 0..n {
-        label_sums(work, i * m, k, power, table, i * k);
+        label_sums(&work[i * m..], k, power, table, i * k);
     }
 }

@@ -8,33 +8,22 @@
 ghost use Rattle.std.specs.Prelude.{◌≤◌};
 
 use std::io::Input;
-use text_decimal_read::Parsed;
 
 // How many bytes of the line there are before the first space.
 fn text_length(line: &[u8; 96]) -> usize
     ensures { result ≤ 95 }
 {
-    for n in 0..95usize {
-        if line[n] == b' ' {
-            return n;
-        }
-    }
-    95
+    line[..95].iter().position(|c| *c == b' ').unwrap_or(95)
 }
 
 fn answer_number(rt: &impl Print, x: f64) -> bool {
-    let w = text_decimal_write::write(x);
-    let bytes = w.bytes;
-    let n = w.length;
-    run_hex::write(rt, number::pattern(x), b' ') && host_io::write_all(rt, &bytes[0..n])
+    run_hex::write(rt, number::pattern(x), b' ')
+        && host_io::write_all(rt, text_decimal_write::write(x).as_slice())
 }
 
 fn answer_short(rt: &impl Print, x: f64, digits: usize) -> bool {
-    let w = text_decimal_short::short(x, digits);
-    let bytes = w.bytes;
-    let n = w.length;
     host_io::write_all(rt, b" ")
-        && host_io::write_all(rt, &bytes[0..n])
+        && host_io::write_all(rt, text_decimal_short::short(x, digits).as_slice())
         && host_io::write_all(rt, b"\n")
 }
 
@@ -51,9 +40,9 @@ fn next(rt: &(impl Print + Input), digits: usize) -> bool {
         return false;
     }
     let n = text_length(&line);
-    match text_decimal_read::read(&line[0..n]) {
-        Parsed::Number(x) => answer_number(rt, x) && answer_short(rt, x, digits),
-        Parsed::Wrong(at) => answer_wrong(rt, at),
+    match text_decimal_read::read(&line[..n]) {
+        Ok(x) => answer_number(rt, x) && answer_short(rt, x, digits),
+        Err(at) => answer_wrong(rt, at),
     }
 }
 

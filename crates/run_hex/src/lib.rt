@@ -1,10 +1,11 @@
 // Numbers as lines of text, for the programs of the gate: 16 hexadecimal digits and a byte that ends them.
 #![tactic(auto)]
 
-ghost use Rattle.std.specs.Prelude.{◌≤◌, length};
+ghost use Rattle.std.specs.Prelude.{◌≤◌, length, IfSome};
 
 use std::io::Input;
 
+// What the next line is: three ways with their names, plainer than Option<Option<u64>>.
 #[derive(Clone, Copy)]
 pub enum Line {
     Pattern(u64),
@@ -12,30 +13,13 @@ pub enum Line {
     End,
 }
 
-// What a byte stands for as a hexadecimal digit, in either case; 16 for a byte that is none.
-fn digit(c: u8) -> u64 {
-    match c {
-        b'0'..=b'9' => (c - b'0') as u64,
-        b'a'..=b'f' => (c - b'a') as u64 + 10,
-        b'A'..=b'F' => (c - b'A') as u64 + 10,
-        _ => 16,
-    }
-}
-
-// What a line says.
-fn pattern(text: &[u8; 17]) -> Line {
+// The number that a line is, in 16 hexadecimal digits of either case.
+fn pattern(text: &[u8; 17]) -> Option<u64> {
     let mut n: u64 = 0;
-    for i in 0..16usize {
-        let d = digit(text[i]);
-        if d > 15 {
-            return Line::Bad;
-        }
-        n = (n << 4) | d;
+    for c in &text[..16] {
+        n = (n << 4) | char::from(*c).to_digit(16)? as u64;
     }
-    if text[16] != b'\n' {
-        return Line::Bad;
-    }
-    Line::Pattern(n)
+    (text[16] == b'\n').then_some(n)
 }
 
 // The next line of standard input. One that the input's end cuts off has zeros for what is missing, and so is bad.
@@ -44,7 +28,10 @@ pub fn read(rt: &impl Input) -> Line {
     if host_io::read_full(rt, &mut text) == 0 {
         return Line::End;
     }
-    pattern(&text)
+    match pattern(&text) {
+        Some(n) => Line::Pattern(n),
+        None => Line::Bad,
+    }
 }
 
 // Puts the next `count` numbers of the input into `out`, up to the first line that has none, and says how many it put.
@@ -52,19 +39,32 @@ pub fn numbers(rt: &impl Input, out: &mut [f64], count: usize) -> usize
     requires { count ≤ length out.old }
     ensures { result ≤ count }
 {
-    for i in 0..count {
+    for (i, x) in out[..count].iter_mut().enumerate() {
         let Line::Pattern(n) = read(rt) else {
             return i;
         };
-        out[i] = number::of_pattern(n);
+        *x = number::of_pattern(n);
     }
     count
 }
 
+// The next `count` numbers of the input, and zeros behind them; None where there are not as many, or no room for them.
+pub fn filled<const N: usize>(rt: &impl Input, count: usize) -> Option<[f64; N]>
+    ensures { IfSome result (λ _. count ≤ N) }
+{
+    if count > N {
+        return None;
+    }
+    let mut out = [0.0; N];
+    if numbers(rt, &mut out, count) < count {
+        return None;
+    }
+    Some(out)
+}
+
 // Writes 16 digits and the byte that ends them, and says whether that went through.
 pub fn write(rt: &impl Print, n: u64, end: u8) -> bool {
-    let after = [end];
-    host_io::print_hex(rt, n) && host_io::write_all(rt, &after)
+    host_io::print_hex(rt, n) && host_io::write_all(rt, &[end])
 }
 
 // Says that line n of the input, counted from 1, is none that the program takes.

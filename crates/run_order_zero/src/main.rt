@@ -7,11 +7,11 @@
 // there are, and how many are far from what is expected, by rule 2 and by rule 1. Or `bad case N`, which ends the run.
 #![tactic(auto)]
 
-ghost use Rattle.std.specs.Prelude.{◌≡◌, ◌≤◌, length};
+ghost use Rattle.std.specs.Prelude.{◌≤◌};
 
 use params::MsarParams;
 use prediction::Rule;
-use refusal::Check;
+use refusal::Refusal;
 use run_hex::Line;
 use spec::MsarSpec;
 use std::io::Input;
@@ -22,27 +22,24 @@ const NEAR: f64 = 1e-13;
 // Room for the tables of a case.
 type Table = [f64; 64];
 
-// Spec and parameters of a case, and whether all its lines were there.
+// Spec and parameters of a case.
 #[derive(Clone, Copy)]
 struct Given {
-    good: bool,
     spec: MsarSpec,
     params: MsarParams,
 }
 
-// What a call answers, or what is expected of it, and whether it was there.
+// What a call answers, or what is expected of it.
 #[derive(Clone, Copy)]
 struct Told {
-    good: bool,
     loglik: f64,
     filtered: Table,
     smoothed: Table,
 }
 
-// Whether the case was one, and whether it is far by rule 1 and by rule 2.
+// Whether a case is far by rule 1 and by rule 2.
 #[derive(Clone, Copy)]
-struct Found {
-    good: bool,
+struct Far {
     one: bool,
     two: bool,
 }
@@ -52,13 +49,9 @@ struct Found {
 // At order zero by rule 2 no step is read, so that the transition stands for the steps too.
 fn show_row(rt: &impl Print) {
     let mut transition = [0.0; 256];
-    transition[0] = 0.5;
-    transition[1] = 0.25;
-    transition[2] = 0.5;
-    transition[3] = 0.75;
+    transition[..4].copy_from_slice(&[0.5, 0.25, 0.5, 0.75]);
     let mut previous = [0.0; 256];
-    previous[0] = 0.25;
-    previous[1] = 0.75;
+    previous[..2].copy_from_slice(&[0.25, 0.75]);
     let mut row = [0.0; 256];
     prediction::later_row(
         Rule::Two,
@@ -76,42 +69,28 @@ fn show_row(rt: &impl Print) {
 
 // ---- reading
 
-// Fills the first places of `out`, and says whether there was room, and as many numbers.
-fn fill(rt: &impl Input, out: &mut [f64], count: usize) -> bool {
-    if count > out.len() {
-        return false;
-    }
-    run_hex::numbers(rt, out, count) == count
-}
-
+// The next line as a count, 0 where it is none: such a line is answered as a written 0 is.
 fn whole(rt: &impl Input) -> usize {
-    match run_hex::read(rt) {
-        Line::Pattern(n) => n as usize,
-        Line::Bad => 0,
-        Line::End => 0,
-    }
+    let Line::Pattern(n) = run_hex::read(rt) else {
+        return 0;
+    };
+    n as usize
 }
 
-// How many cells so many rows of so many labels have; more than there is room for, where there is none.
-fn cells(rows: usize, k: usize) -> usize {
-    if rows > 16 {
-        return 257;
+// How many cells so many rows of so many labels have, where there is room for them.
+fn cells(rows: usize, k: usize) -> Option<usize> {
+    if rows > 16 || k > 16 {
+        return None;
     }
-    if k > 16 {
-        return 257;
-    }
-    rows * k
+    Some(rows * k)
 }
 
-fn read_model(rt: &impl Input, k: usize, variances_count: usize) -> Given {
-    let mut transition = [0.0; 256];
-    let mut means = [0.0; 16];
-    let mut variances = [0.0; 16];
-    let good = fill(rt, &mut transition, cells(k, k))
-        && fill(rt, &mut means, k)
-        && fill(rt, &mut variances, variances_count);
-    Given {
-        good,
+fn read_model(rt: &impl Input, k: usize, variances_count: usize) -> Option<Given> {
+    let transition_count = cells(k, k)?;
+    let transition = run_hex::filled(rt, transition_count)?;
+    let means = run_hex::filled(rt, k)?;
+    let variances = run_hex::filled(rt, variances_count)?;
+    Some(Given {
         spec: MsarSpec {
             k_regimes: k,
             order: 0,
@@ -124,44 +103,33 @@ fn read_model(rt: &impl Input, k: usize, variances_count: usize) -> Given {
             ar: [0.0; 112],
             variances,
             means_count: k,
-            transition_count: cells(k, k),
+            transition_count,
             ar_blocks: 1,
             order: 0,
             ar_count: 0,
             variances_count,
         },
-    }
+    })
 }
 
-fn expected(rt: &impl Input, count: usize) -> Told {
-    let mut loglik = [0.0; 1];
-    let mut filtered = [0.0; 64];
-    let mut smoothed = [0.0; 64];
-    let good = fill(rt, &mut loglik, 1)
-        && fill(rt, &mut filtered, count)
-        && fill(rt, &mut smoothed, count);
-    Told {
-        good,
-        loglik: loglik[0],
+fn expected(rt: &impl Input, count: usize) -> Option<Told> {
+    let [loglik]: [f64; 1] = run_hex::filled(rt, 1)?;
+    let filtered = run_hex::filled(rt, count)?;
+    let smoothed = run_hex::filled(rt, count)?;
+    Some(Told {
+        loglik,
         filtered,
         smoothed,
-    }
+    })
 }
 
 // ---- the call, and how far it is
 
-fn passed(check: Check) -> bool {
-    match check {
-        Check::Passed => true,
-        Check::Failed(_) => false,
-    }
-}
-
-fn answered(c: Given, rule: usize, series: &[f64]) -> Told {
+fn answered(c: &Given, rule: usize, series: &[f64]) -> Result<Told, Refusal> {
     let mut work = [0.0; 512];
     let mut filtered = [0.0; 64];
     let mut smoothed = [0.0; 64];
-    let answer = calls::smooth(
+    let loglik = calls::smooth(
         c.spec,
         series,
         c.params,
@@ -169,77 +137,47 @@ fn answered(c: Given, rule: usize, series: &[f64]) -> Told {
         &mut work,
         &mut filtered,
         &mut smoothed,
-    );
-    let check = answer.check;
-    Told {
-        good: passed(check),
-        loglik: answer.loglik,
+    )?;
+    Ok(Told {
+        loglik,
         filtered,
         smoothed,
-    }
+    })
 }
 
 // Whether each number is near the other's; what a case does not use is zero in both.
-fn near_tables(a: &[f64; 64], b: &[f64; 64]) -> bool {
-    for i in 0..64usize {
-        if !(number::magnitude(a[i] - b[i]) <= NEAR) {
-            return false;
-        }
-    }
-    true
+fn near_tables(a: &Table, b: &Table) -> bool {
+    a.iter()
+        .zip(b)
+        .all(|(x, y)| number::magnitude(*x - *y) <= NEAR)
 }
 
-fn is_near(a: Told, e: Told) -> bool {
+fn is_near(a: &Told, e: &Told) -> bool {
     let distance = number::magnitude(a.loglik - e.loglik);
-    a.good
-        && (distance <= NEAR * (number::magnitude(e.loglik) + 1.0))
+    (distance <= NEAR * (number::magnitude(e.loglik) + 1.0))
         && near_tables(&a.filtered, &e.filtered)
         && near_tables(&a.smoothed, &e.smoothed)
 }
 
+// Whether the answer is far from what is expected, as a refusal is.
+fn is_far(answer: Result<Told, Refusal>, e: &Told) -> bool {
+    !answer.is_ok_and(|a| is_near(&a, e))
+}
+
 // ---- the cases
 
-fn no_case() -> Found {
-    Found {
-        good: false,
-        one: false,
-        two: false,
-    }
-}
-
-fn judged(c: Given, series: &[f64], e: Told) -> Found {
-    Found {
-        good: c.good & e.good,
-        one: !is_near(answered(c, 1, series), e),
-        two: !is_near(answered(c, 2, series), e),
-    }
-}
-
-fn unread() -> [f64; 16]
-    ensures { 16 ≡ length result }
-{
-    [0.0; 16]
-}
-
-fn case(rt: &impl Input, k: usize) -> Found {
+// The case whose numbers come next, its k aside; None where the input has none.
+fn case(rt: &impl Input, k: usize) -> Option<Far> {
     let variances_count = whole(rt);
     let readings = whole(rt);
-    let c = read_model(rt, k, variances_count);
-    let mut series = unread();
-    if readings > 16 {
-        return no_case();
-    }
-    if run_hex::numbers(rt, &mut series, readings) < readings {
-        return no_case();
-    }
-    let e = expected(rt, cells(readings, k));
-    judged(c, &series[..readings], e)
-}
-
-fn one(b: bool) -> u64
-    ensures { result ≤ 1 }
-{
-    if b { 1 } else { 0 }
+    let c = read_model(rt, k, variances_count)?;
+    let numbers: [f64; 16] = run_hex::filled(rt, readings)?;
+    let series = &numbers[..readings];
+    let e = expected(rt, cells(readings, k)?)?;
+    Some(Far {
+        one: is_far(answered(&c, 1, series), &e),
+        two: is_far(answered(&c, 2, series), &e),
+    })
 }
 
 fn say(rt: &impl Print, before: &[u8], n: u64, after: &[u8]) {
@@ -268,12 +206,11 @@ fn main(rt: HostRuntime) {
             end(&rt, cases, far_one, far_two);
             return;
         };
-        let found = case(&rt, k as usize);
-        if !found.good {
+        let Some(far) = case(&rt, k as usize) else {
             bad(&rt, cases);
             return;
-        }
-        far_one += one(found.one);
-        far_two += one(found.two);
+        };
+        far_one += far.one as u64;
+        far_two += far.two as u64;
     }
 }

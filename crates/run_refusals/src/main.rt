@@ -2,17 +2,19 @@
 // the value's bit pattern, or `passed`; the file stdout has what the Rust answers (oracle/params).
 #![tactic(auto)]
 
+ghost use Rattle.std.specs.Prelude.{◌≤◌, length};
+
 use params::MsarParams;
-use refusal::{Check, Refusal};
-use spec::{MsarSpec, Windows};
+use refusal::Refusal;
+use spec::MsarSpec;
 
 // Two regimes of order 1, which pass: stay probabilities 0.75 and 1.
 fn good() -> MsarParams {
     MsarParams {
-        transition: table(0.75, 0.0, 0.25, 1.0),
-        means: pair(0.0, 1.0),
+        transition: padded(&[0.75, 0.0, 0.25, 1.0]),
+        means: padded(&[0.0, 1.0]),
         ar: [0.0; 112],
-        variances: pair(1.0, 0.0),
+        variances: padded(&[1.0]),
         means_count: 2,
         transition_count: 4,
         ar_blocks: 1,
@@ -22,26 +24,12 @@ fn good() -> MsarParams {
     }
 }
 
-fn table(a: f64, b: f64, c: f64, d: f64) -> [f64; 256] {
-    let mut transition = [0.0; 256];
-    transition[0] = a;
-    transition[1] = b;
-    transition[2] = c;
-    transition[3] = d;
-    transition
-}
-
-fn pair(a: f64, b: f64) -> [f64; 16] {
-    let mut values = [0.0; 16];
-    values[0] = a;
-    values[1] = b;
-    values
-}
-
-fn coefficients(a: f64, b: f64) -> [f64; 112] {
-    let mut values = [0.0; 112];
-    values[0] = a;
-    values[1] = b;
+// These numbers, and zeros behind them.
+fn padded<const N: usize>(numbers: &[f64]) -> [f64; N]
+    requires { length numbers.now ≤ N }
+{
+    let mut values = [0.0; N];
+    values[..numbers.len()].copy_from_slice(numbers);
     values
 }
 
@@ -54,15 +42,20 @@ fn refused(rt: &impl Print, r: Refusal) {
     host_io::write_all(rt, b"\n");
 }
 
+fn passed(rt: &impl Print) {
+    host_io::write_all(rt, b"passed\n");
+}
+
 fn show(rt: &impl Print, q: MsarParams) {
-    let built = MsarParams::new(q);
-    let check = built.check;
-    match check {
-        Check::Passed => {
-            host_io::write_all(rt, b"passed\n");
-        }
-        Check::Failed(r) => refused(rt, r),
+    match MsarParams::new(q) {
+        Ok(_) => passed(rt),
+        Err(r) => refused(rt, r),
     }
+}
+
+fn windows(rt: &impl Print, m: usize) {
+    host_io::print_decimal(rt, m as u64);
+    host_io::write_all(rt, b" windows\n");
 }
 
 fn count(rt: &impl Print, k_regimes: usize, order: usize) {
@@ -73,19 +66,18 @@ fn count(rt: &impl Print, k_regimes: usize, order: usize) {
         switching_variance: false,
     };
     match s.expanded_states() {
-        Windows::Count(m) => {
-            host_io::print_decimal(rt, m as u64);
-            host_io::write_all(rt, b" windows\n");
-        }
-        Windows::Refused(r) => refused(rt, r),
+        Ok(m) => windows(rt, m),
+        Err(r) => refused(rt, r),
     }
 }
 
 // ---- the record with one part changed
 
+// A function for each part: each sets a field of its own, and counts of its own.
+
 fn means(q: MsarParams, count: usize, a: f64, b: f64) -> MsarParams {
     MsarParams {
-        means: pair(a, b),
+        means: padded(&[a, b]),
         means_count: count,
         ..q
     }
@@ -93,14 +85,14 @@ fn means(q: MsarParams, count: usize, a: f64, b: f64) -> MsarParams {
 
 fn transition(q: MsarParams, a: f64, b: f64, c: f64, d: f64) -> MsarParams {
     MsarParams {
-        transition: table(a, b, c, d),
+        transition: padded(&[a, b, c, d]),
         ..q
     }
 }
 
 fn ar(q: MsarParams, blocks: usize, a: f64, b: f64) -> MsarParams {
     MsarParams {
-        ar: coefficients(a, b),
+        ar: padded(&[a, b]),
         ar_blocks: blocks,
         ar_count: blocks,
         ..q
@@ -109,7 +101,7 @@ fn ar(q: MsarParams, blocks: usize, a: f64, b: f64) -> MsarParams {
 
 fn variances(q: MsarParams, count: usize, a: f64, b: f64) -> MsarParams {
     MsarParams {
-        variances: pair(a, b),
+        variances: padded(&[a, b]),
         variances_count: count,
         ..q
     }
@@ -160,12 +152,16 @@ fn main(rt: HostRuntime) {
     means_and_transition(&rt, q, nan, infinity);
     ar_and_variances(&rt, q, nan, infinity);
     together(&rt, q, nan);
-    count(&rt, 0, 0);
-    count(&rt, 1, 3);
-    count(&rt, 2, 1);
-    count(&rt, 2, 7);
-    count(&rt, 6, 2);
-    count(&rt, 16, 1);
-    count(&rt, 2, 12);
-    count(&rt, 16, 18446744073709551615);
+    for (k, order) in [
+        (0, 0),
+        (1, 3),
+        (2, 1),
+        (2, 7),
+        (6, 2),
+        (16, 1),
+        (2, 12),
+        (16, usize::MAX),
+    ] {
+        count(&rt, k, order);
+    }
 }

@@ -15,12 +15,11 @@
 // which ends the run.
 #![tactic(auto)]
 
-ghost use Rattle.std.specs.Prelude.{◌≡◌, ◌≤◌, length};
+ghost use Rattle.std.specs.Prelude.{◌≤◌, length};
 
-use filter::Answer;
 use fit::Fitted;
 use params::MsarParams;
-use refusal::Check;
+use refusal::Refusal;
 use run_hex::Line;
 use spec::MsarSpec;
 use std::io::Input;
@@ -28,27 +27,45 @@ use std::io::Input;
 // What memory holds before it is lent: no probability, and no other number that a call of the file writes.
 const MARK: f64 = 987654321.125;
 
-// More places than any case of the file lends.
-type Memory = [f64; 25600];
+// More than any case of the file lends.
+const PLACES: usize = 25600;
 
-// A case, its readings aside: the call, what it is given, and how many places of each memory it is lent.
+type Memory = [f64; PLACES];
+
+// The call that a case makes, with what it takes beside spec, parameters and memory: its rule, or the passes allowed and the
+// tolerance.
 #[derive(Clone, Copy)]
-struct Given {
-    which: usize,
-    spec: MsarSpec,
-    params: MsarParams,
-    rule: usize,
-    max_iter: usize,
-    tol: f64,
+enum Call {
+    Loglike(usize),
+    Filter(usize),
+    Smooth(usize),
+    Fit(usize, f64),
+}
+
+// How many places of each memory a case lends: no more than there are.
+#[derive(Clone, Copy)]
+struct Lent {
     work: usize,
     filtered: usize,
     smoothed: usize,
+    ghost work_fits: { work ≤ 25600 },
+    ghost filtered_fits: { filtered ≤ 25600 },
+    ghost smoothed_fits: { smoothed ≤ 25600 },
 }
 
-// What a call answers, and what it leaves in memory. An answer of another call than fit has the parameters that it was given.
+// A case, its readings aside.
+#[derive(Clone, Copy)]
+struct Given {
+    call: Call,
+    spec: MsarSpec,
+    params: MsarParams,
+    lent: Lent,
+}
+
+// What a call answers, and what it leaves in memory.
 #[derive(Clone, Copy)]
 struct Outcome {
-    fitted: Fitted,
+    answer: Result<Fitted, Refusal>,
     work: Memory,
     filtered: Memory,
     smoothed: Memory,
@@ -56,98 +73,73 @@ struct Outcome {
 
 // ---- the calls
 
-fn answered(a: Answer, params: MsarParams) -> Fitted {
-    let check = a.check;
-    Fitted {
-        check,
+// The answer of another call than fit, beside the parameters that it was given.
+fn unfitted(loglik: Result<f64, Refusal>, params: MsarParams) -> Result<Fitted, Refusal> {
+    Ok(Fitted {
         params,
-        loglik: a.loglik,
+        loglik: loglik?,
         iterations: 0,
         converged: false,
-    }
+    })
 }
 
+// The same four calls of two crates: that they agree is what this program compares, so each is written out.
 fn plain(
-    c: Given,
+    c: &Given,
     series: &[f64],
     work: &mut [f64],
     filtered: &mut [f64],
     smoothed: &mut [f64],
-) -> Fitted {
-    let q = c.params;
-    let which = c.which;
-    match which {
-        1 => answered(calls::loglike(c.spec, series, q, c.rule, work), q),
-        2 => answered(calls::filter(c.spec, series, q, c.rule, work, filtered), q),
-        3 => answered(
-            calls::smooth(c.spec, series, q, c.rule, work, filtered, smoothed),
+) -> Result<Fitted, Refusal> {
+    let (s, q) = (c.spec, c.params);
+    match c.call {
+        Call::Loglike(rule) => unfitted(calls::loglike(s, series, q, rule, work), q),
+        Call::Filter(rule) => unfitted(calls::filter(s, series, q, rule, work, filtered), q),
+        Call::Smooth(rule) => unfitted(
+            calls::smooth(s, series, q, rule, work, filtered, smoothed),
             q,
         ),
-        _ => fit::fit(c.spec, series, q, c.max_iter, c.tol, work, smoothed),
+        Call::Fit(passes, tol) => fit::fit(s, series, q, passes, tol, work, smoothed),
     }
 }
 
 fn held(
-    c: Given,
+    c: &Given,
     series: &[f64],
     work: &mut [f64],
     filtered: &mut [f64],
     smoothed: &mut [f64],
-) -> Fitted {
-    let q = c.params;
-    let which = c.which;
-    match which {
-        1 => answered(record::loglike_of(c.spec, series, q, c.rule, work), q),
-        2 => answered(
-            record::filter_of(c.spec, series, q, c.rule, work, filtered),
+) -> Result<Fitted, Refusal> {
+    let (s, q) = (c.spec, c.params);
+    match c.call {
+        Call::Loglike(rule) => unfitted(record::loglike_of(s, series, q, rule, work), q),
+        Call::Filter(rule) => unfitted(record::filter_of(s, series, q, rule, work, filtered), q),
+        Call::Smooth(rule) => unfitted(
+            record::smooth_of(s, series, q, rule, work, filtered, smoothed),
             q,
         ),
-        3 => answered(
-            record::smooth_of(c.spec, series, q, c.rule, work, filtered, smoothed),
-            q,
-        ),
-        _ => record::fit_of(c.spec, series, q, c.max_iter, c.tol, work, smoothed),
+        Call::Fit(passes, tol) => record::fit_of(s, series, q, passes, tol, work, smoothed),
     }
 }
 
-fn marked() -> Memory
-    ensures { 25600 ≡ length result }
+// The case by these calls, in memory of its own, of which as much is lent as the case says.
+fn ran<F>(calls: F, c: &Given, series: &[f64]) -> Outcome
+where
+    F: Fn(&Given, &[f64], &mut [f64], &mut [f64], &mut [f64]) -> Result<Fitted, Refusal>,
+    requires { F.IsAlwaysCallable calls }
 {
-    [MARK; 25600]
-}
-
-// The case through the record, or through the plain call.
-fn call(
-    by_record: bool,
-    c: Given,
-    series: &[f64],
-    work: &mut [f64],
-    filtered: &mut [f64],
-    smoothed: &mut [f64],
-) -> Fitted {
-    if by_record {
-        return held(c, series, work, filtered, smoothed);
-    }
-    plain(c, series, work, filtered, smoothed)
-}
-
-// The same in memory of its own, of which as much is lent as the case says.
-fn ran(by_record: bool, c: Given, series: &[f64]) -> Outcome
-    requires { (c.work ≤ 25600) × (c.filtered ≤ 25600) × (c.smoothed ≤ 25600) }
-{
-    let mut work = marked();
-    let mut filtered = marked();
-    let mut smoothed = marked();
-    let fitted = call(
-        by_record,
+    let mut work = [MARK; PLACES];
+    let mut filtered = [MARK; PLACES];
+    let mut smoothed = [MARK; PLACES];
+    let answer = calls(
         c,
         series,
-        &mut work[..c.work],
-        &mut filtered[..c.filtered],
-        &mut smoothed[..c.smoothed],
+        &mut work[..c.lent.work],
+        &mut filtered[..c.lent.filtered],
+        &mut smoothed[..c.lent.smoothed],
     );
     Outcome {
-        fitted,
+        answer,
         work,
         filtered,
         smoothed,
@@ -161,174 +153,123 @@ fn same_number(a: f64, b: f64) -> bool {
 }
 
 fn same_numbers(a: &[f64], b: &[f64]) -> bool {
-    if b.len() != a.len() {
-        return false;
-    }
-    for i in 0..a.len() {
-        if !same_number(a[i], b[i]) {
-            return false;
-        }
-    }
-    true
+    a.len() == b.len() && a.iter().zip(b).all(|(x, y)| same_number(*x, *y))
 }
 
-fn same_check(a: Check, b: Check) -> bool {
-    match a {
-        Check::Passed => match b {
-            Check::Passed => true,
-            Check::Failed(_) => false,
-        },
-        Check::Failed(r) => match b {
-            Check::Passed => false,
-            Check::Failed(t) => {
-                (r.number() == t.number())
-                    & (r.place() == t.place())
-                    & same_number(r.value(), t.value())
-            }
-        },
-    }
+fn counts(q: &MsarParams) -> [usize; 6] {
+    [
+        q.means_count,
+        q.transition_count,
+        q.ar_blocks,
+        q.order,
+        q.ar_count,
+        q.variances_count,
+    ]
 }
 
-fn same_counts(a: MsarParams, b: MsarParams) -> bool {
-    (a.means_count == b.means_count)
-        & (a.transition_count == b.transition_count)
-        & (a.ar_blocks == b.ar_blocks)
-        & (a.order == b.order)
-        & (a.ar_count == b.ar_count)
-        & (a.variances_count == b.variances_count)
-}
-
-fn same_params(a: MsarParams, b: MsarParams) -> bool {
+fn same_params(a: &MsarParams, b: &MsarParams) -> bool {
     same_numbers(&a.transition, &b.transition)
-        & same_numbers(&a.means, &b.means)
-        & same_numbers(&a.ar, &b.ar)
-        & same_numbers(&a.variances, &b.variances)
-        & same_counts(a, b)
+        && same_numbers(&a.means, &b.means)
+        && same_numbers(&a.ar, &b.ar)
+        && same_numbers(&a.variances, &b.variances)
+        && counts(a) == counts(b)
 }
 
-fn same_fitted(a: Fitted, b: Fitted) -> bool {
-    let a_check = a.check;
-    let b_check = b.check;
-    same_check(a_check, b_check)
-        & same_params(a.params, b.params)
-        & same_number(a.loglik, b.loglik)
-        & (a.iterations == b.iterations)
-        & (a.converged == b.converged)
+fn same_fitted(a: &Fitted, b: &Fitted) -> bool {
+    same_params(&a.params, &b.params)
+        && same_number(a.loglik, b.loglik)
+        && a.iterations == b.iterations
+        && a.converged == b.converged
 }
 
-fn same_outcome(a: Outcome, b: Outcome) -> bool {
-    same_fitted(a.fitted, b.fitted)
-        & same_numbers(&a.work, &b.work)
-        & same_numbers(&a.filtered, &b.filtered)
-        & same_numbers(&a.smoothed, &b.smoothed)
+// A refusal as it is compared and written: its number, its place and its value's pattern.
+fn words(r: Refusal) -> (usize, usize, u64) {
+    (r.number(), r.place(), number::pattern(r.value()))
+}
+
+// By patterns: a derived equality would hold the zeros of both signs equal, and no NaN equal to itself.
+fn same_answer(a: &Result<Fitted, Refusal>, b: &Result<Fitted, Refusal>) -> bool {
+    match (a, b) {
+        (Ok(x), Ok(y)) => same_fitted(x, y),
+        (Err(r), Err(t)) => words(*r) == words(*t),
+        _ => false,
+    }
+}
+
+fn same_outcome(a: &Outcome, b: &Outcome) -> bool {
+    same_answer(&a.answer, &b.answer)
+        && same_numbers(&a.work, &b.work)
+        && same_numbers(&a.filtered, &b.filtered)
+        && same_numbers(&a.smoothed, &b.smoothed)
 }
 
 // What making the record finds is what `bind` finds, 1 to 6.
 fn same_bound(s: MsarSpec, series: &[f64]) -> bool {
-    let bound = binding::bind(s, series);
-    let check = bound.check;
-    same_check(check, record::check_of(s, series))
+    let bound = binding::bind(s, series).map(|_| ()).map_err(words);
+    bound == record::check_of(s, series).map_err(words)
 }
 
 // ---- writing
 
-fn least(a: usize, b: usize) -> usize
-    ensures { (result ≤ a) × (result ≤ b) }
-{
-    if a < b { a } else { b }
-}
-
 fn decimal(rt: &impl Print, n: usize, end: u8) {
-    let after = [end];
     host_io::print_decimal(rt, n as u64);
-    host_io::write_all(rt, &after);
+    host_io::write_all(rt, &[end]);
 }
 
-fn show_answer(rt: &impl Print, a: Fitted) {
-    let check = a.check;
-    match check {
-        Check::Passed => {
-            host_io::write_all(rt, b"0 0 ");
-            run_hex::write(rt, 0, b' ');
-        }
-        Check::Failed(r) => {
-            decimal(rt, r.number(), b' ');
-            decimal(rt, r.place(), b' ');
-            run_hex::write(rt, number::pattern(r.value()), b' ');
-        }
-    }
-    run_hex::write(rt, number::pattern(a.loglik), b'\n');
+// A refused answer has zeros for its numbers, and an answer for its refusal.
+fn show_answer(rt: &impl Print, answer: &Result<Fitted, Refusal>) {
+    let (number, place, value) = match answer {
+        Ok(_) => (0, 0, 0),
+        Err(r) => words(*r),
+    };
+    decimal(rt, number, b' ');
+    decimal(rt, place, b' ');
+    run_hex::write(rt, value, b' ');
+    let loglik = match answer {
+        Ok(a) => a.loglik,
+        Err(_) => 0.0,
+    };
+    run_hex::write(rt, number::pattern(loglik), b'\n');
 }
 
-// Whether a place is +0, or else whether it was written.
-fn holds(x: f64, zero: bool) -> bool {
-    if zero {
-        return number::pattern(x) == 0;
-    }
-    x != MARK
-}
-
-// How many places, from the first on, are +0, or else were written.
-fn leading(memory: &[f64], zero: bool) -> usize
-    ensures { result ≤ length memory.now }
+// How many numbers are not `blank`.
+fn others(numbers: &[f64], blank: f64) -> usize
+    ensures { result ≤ length numbers.now }
 {
-    for i in 0..memory.len() {
-        if !holds(memory[i], zero) {
-            return i;
-        }
-    }
-    memory.len()
+    numbers.iter().filter(|x| !same_number(**x, blank)).count()
 }
 
-// 0 for a place that holds `blank`, else 1.
-fn one(x: f64, blank: f64) -> usize
-    ensures { result ≤ 1 }
-{
-    if same_number(x, blank) { 0 } else { 1 }
-}
-
-// How many places from this one on hold something else than `blank`.
-fn past(memory: &[f64], from: usize, blank: f64) -> usize
-    ensures { result ≤ length memory.now }
-{
-    let mut count = 0;
-    for i in from..memory.len() {
-        count += one(memory[i], blank);
-    }
-    count
-}
-
-// Writes the first n numbers.
-fn show_numbers(rt: &impl Print, memory: &[f64], n: usize)
-    requires { n ≤ length memory.now }
-{
-    for i in 0..n {
-        run_hex::write(rt, number::pattern(memory[i]), b'\n');
+fn show_numbers(rt: &impl Print, numbers: &[f64]) {
+    for x in numbers {
+        run_hex::write(rt, number::pattern(*x), b'\n');
     }
 }
 
-fn show_work(rt: &impl Print, memory: &[f64]) {
-    let zeros = leading(memory, true);
+fn show_work(rt: &impl Print, work: &[f64]) {
+    let zeros = work
+        .iter()
+        .position(|x| number::pattern(*x) != 0)
+        .unwrap_or(work.len());
     decimal(rt, zeros, b' ');
-    decimal(rt, past(memory, zeros, MARK), b'\n');
+    decimal(rt, others(&work[zeros..], MARK), b'\n');
 }
 
-fn show_table(rt: &impl Print, memory: &[f64]) {
-    let n = leading(memory, false);
-    show_numbers(rt, memory, n);
-    decimal(rt, past(memory, n, MARK), b'\n');
+fn show_table(rt: &impl Print, table: &[f64]) {
+    let written = table.iter().position(|x| *x == MARK).unwrap_or(table.len());
+    show_numbers(rt, &table[..written]);
+    decimal(rt, others(&table[written..], MARK), b'\n');
 }
 
 // Writes the first numbers of a part, as many as its count says, and counts those of the others that are not +0.
 fn show_part(rt: &impl Print, part: &[f64], count: usize) -> usize
     ensures { result ≤ length part.now }
 {
-    let n = least(count, part.len());
-    show_numbers(rt, part, n);
-    past(part, n, 0.0)
+    let n = count.min(part.len());
+    show_numbers(rt, &part[..n]);
+    others(&part[n..], 0.0)
 }
 
-fn show_params(rt: &impl Print, q: MsarParams) {
+fn show_params(rt: &impl Print, q: &MsarParams) {
     let transition = show_part(rt, &q.transition, q.transition_count);
     let means = show_part(rt, &q.means, q.means_count);
     let ar = show_part(rt, &q.ar, q.ar_count);
@@ -336,170 +277,161 @@ fn show_params(rt: &impl Print, q: MsarParams) {
     decimal(rt, transition + means + ar + variances, b'\n');
 }
 
-// Writes the lines that the call's case has.
-fn show(rt: &impl Print, which: usize, o: Outcome) {
-    let a = o.fitted;
-    show_answer(rt, a);
-    if which == 4 {
-        decimal(rt, a.iterations, b' ');
-        decimal(rt, if a.converged { 1 } else { 0 }, b'\n');
-    }
+// What a fit has behind the first line. A refused one has neither passes nor parameters, and zeros for both.
+fn show_fit(rt: &impl Print, o: &Outcome) {
+    let (iterations, converged) = match &o.answer {
+        Ok(a) => (a.iterations, a.converged as usize),
+        Err(_) => (0, 0),
+    };
+    decimal(rt, iterations, b' ');
+    decimal(rt, converged, b'\n');
     show_work(rt, &o.work);
-    if (which == 2) | (which == 3) {
-        show_table(rt, &o.filtered);
+    show_table(rt, &o.smoothed);
+    match &o.answer {
+        Ok(a) => show_params(rt, &a.params),
+        Err(_) => decimal(rt, 0, b'\n'),
     }
-    if which > 2 {
-        show_table(rt, &o.smoothed);
-    }
-    if which == 4 {
-        show_params(rt, a.params);
+}
+
+// Writes the lines that the call's case has.
+fn show(rt: &impl Print, call: Call, o: &Outcome) {
+    show_answer(rt, &o.answer);
+    match call {
+        Call::Loglike(_) => show_work(rt, &o.work),
+        Call::Filter(_) => {
+            show_work(rt, &o.work);
+            show_table(rt, &o.filtered);
+        }
+        Call::Smooth(_) => {
+            show_work(rt, &o.work);
+            show_table(rt, &o.filtered);
+            show_table(rt, &o.smoothed);
+        }
+        Call::Fit(_, _) => show_fit(rt, o),
     }
 }
 
 // ---- reading
 
-// Fills `out` with the next whole numbers of the input, and says whether there were as many.
-fn wholes(rt: &impl Input, out: &mut [u64]) -> bool {
-    for i in 0..out.len() {
-        let Line::Pattern(n) = run_hex::read(rt) else {
-            return false;
-        };
-        out[i] = n;
+// The next line as a whole number.
+fn whole(rt: &impl Input) -> Option<usize> {
+    let Line::Pattern(n) = run_hex::read(rt) else {
+        return None;
+    };
+    Some(n as usize)
+}
+
+// The counts of the parameters.
+fn read_counts(rt: &impl Input) -> Option<[usize; 6]> {
+    let mut counts = [0; 6];
+    for count in &mut counts {
+        *count = whole(rt)?;
     }
-    true
+    Some(counts)
 }
 
-// Puts as many numbers of the input into `out` as the count says, but no more than it holds, and says whether there were as many.
-fn part(rt: &impl Input, out: &mut [f64], count: usize) -> bool {
-    let held = least(count, out.len());
-    run_hex::numbers(rt, out, held) == held
+fn read_spec(rt: &impl Input) -> Option<MsarSpec> {
+    Some(MsarSpec {
+        k_regimes: whole(rt)?,
+        order: whole(rt)?,
+        switching_ar: whole(rt)? != 0,
+        switching_variance: whole(rt)? != 0,
+    })
 }
 
-fn spec_of(head: &[u64; 15]) -> MsarSpec {
-    MsarSpec {
-        k_regimes: head[0] as usize,
-        order: head[1] as usize,
-        switching_ar: head[2] != 0,
-        switching_variance: head[3] != 0,
+// As many numbers of the input as the count says, but no more than the part holds.
+fn read_part<const N: usize>(rt: &impl Input, count: usize) -> Option<[f64; N]> {
+    run_hex::filled(rt, count.min(N))
+}
+
+// How much memory is lent; None where there is not so much.
+fn read_lent(rt: &impl Input) -> Option<Lent> {
+    let work = whole(rt)?;
+    let filtered = whole(rt)?;
+    let smoothed = whole(rt)?;
+    if work > PLACES || filtered > PLACES || smoothed > PLACES {
+        return None;
+    }
+    Some(Lent {
+        work,
+        filtered,
+        smoothed,
+    })
+}
+
+// The parameters with these counts, whose numbers come next.
+fn read_params(rt: &impl Input, counts: [usize; 6]) -> Option<MsarParams> {
+    let [
+        means_count,
+        transition_count,
+        ar_blocks,
+        order,
+        ar_count,
+        variances_count,
+    ] = counts;
+    Some(MsarParams {
+        transition: read_part(rt, transition_count)?,
+        means: read_part(rt, means_count)?,
+        ar: read_part(rt, ar_count)?,
+        variances: read_part(rt, variances_count)?,
+        means_count,
+        transition_count,
+        ar_blocks,
+        order,
+        ar_count,
+        variances_count,
+    })
+}
+
+// The call with this number. What a fit takes stands behind its parameters, and comes next.
+fn read_call(rt: &impl Input, number: u64, rule: usize) -> Option<Call> {
+    match number {
+        1 => Some(Call::Loglike(rule)),
+        2 => Some(Call::Filter(rule)),
+        3 => Some(Call::Smooth(rule)),
+        4 => {
+            let passes = whole(rt)?;
+            let tol = whole(rt)?;
+            Some(Call::Fit(passes, number::of_pattern(tol as u64)))
+        }
+        _ => None,
     }
 }
 
 // ---- the cases
 
 // Answers a case both ways.
-fn answer(rt: &impl Print, c: Given, series: &[f64])
-    requires { (c.work ≤ 25600) × (c.filtered ≤ 25600) × (c.smoothed ≤ 25600) }
-{
-    let a = ran(false, c, series);
-    let b = ran(true, c, series);
-    if !(same_outcome(a, b) & same_bound(c.spec, series)) {
+fn answer(rt: &impl Print, c: &Given, series: &[f64]) {
+    let a = ran(plain, c, series);
+    let b = ran(held, c, series);
+    if !(same_outcome(&a, &b) && same_bound(c.spec, series)) {
         host_io::write_all(rt, b"the record differs\n");
     }
-    show(rt, c.which, a);
+    show(rt, c.call, &a);
 }
 
-// Answers a case that lends no more memory than there is.
-fn admitted(rt: &impl Print, c: Given, series: &[f64]) -> bool {
-    if c.work > 25600 {
-        return false;
-    }
-    if c.filtered > 25600 {
-        return false;
-    }
-    if c.smoothed > 25600 {
-        return false;
-    }
-    answer(rt, c, series);
-    true
-}
-
-// Reads what a fit has behind its parameters, and answers the case.
-fn ending(
-    rt: &(impl Print + Input),
-    which: usize,
-    head: &[u64; 15],
-    series: &[f64],
-    params: MsarParams,
-) -> bool {
-    let mut last = [0; 2];
-    if which == 4 {
-        if !wholes(rt, &mut last) {
-            return false;
-        }
-    }
+// Answers the case of this call; None where it is none that the program takes. A series may have one reading more than a call
+// takes.
+fn case(rt: &(impl Print + Input), number: u64) -> Option<()> {
+    let spec = read_spec(rt)?;
+    let lent = read_lent(rt)?;
+    let readings = whole(rt)?;
+    let counts = read_counts(rt)?;
+    let rule = whole(rt)?;
+    let series: [f64; 4097] = run_hex::filled(rt, readings)?;
+    let params = read_params(rt, counts)?;
+    let call = read_call(rt, number, rule)?;
     let c = Given {
-        which,
-        spec: spec_of(head),
+        call,
+        spec,
         params,
-        rule: head[14] as usize,
-        max_iter: last[0] as usize,
-        tol: number::of_pattern(last[1]),
-        work: head[4] as usize,
-        filtered: head[5] as usize,
-        smoothed: head[6] as usize,
+        lent,
     };
-    admitted(rt, c, series)
+    answer(rt, &c, &series[..readings]);
+    Some(())
 }
 
-// Reads the parameters, and answers the case.
-fn parameters(rt: &(impl Print + Input), which: usize, head: &[u64; 15], series: &[f64]) -> bool {
-    let mut transition = [0.0; 256];
-    let mut means = [0.0; 16];
-    let mut ar = [0.0; 112];
-    let mut variances = [0.0; 16];
-    let means_count = head[8] as usize;
-    let transition_count = head[9] as usize;
-    let ar_count = head[12] as usize;
-    let variances_count = head[13] as usize;
-    if !(part(rt, &mut transition, transition_count)
-        && part(rt, &mut means, means_count)
-        && part(rt, &mut ar, ar_count)
-        && part(rt, &mut variances, variances_count))
-    {
-        return false;
-    }
-    let q = MsarParams {
-        transition,
-        means,
-        ar,
-        variances,
-        means_count,
-        transition_count,
-        ar_blocks: head[10] as usize,
-        order: head[11] as usize,
-        ar_count,
-        variances_count,
-    };
-    ending(rt, which, head, series, q)
-}
-
-// One reading more than a call takes.
-fn unread() -> [f64; 4097]
-    ensures { 4097 ≡ length result }
-{
-    [0.0; 4097]
-}
-
-// Answers a case, and says whether it is one that the program takes.
-fn case(rt: &(impl Print + Input), which: usize) -> bool {
-    if (which < 1) | (which > 4) {
-        return false;
-    }
-    let mut head = [0; 15];
-    let mut series = unread();
-    if !wholes(rt, &mut head) {
-        return false;
-    }
-    let readings = head[7] as usize;
-    if readings > 4097 {
-        return false;
-    }
-    if run_hex::numbers(rt, &mut series, readings) < readings {
-        return false;
-    }
-    parameters(rt, which, &head, &series[..readings])
-}
-
+// Beside run_hex::bad_line: other words.
 fn bad(rt: &impl Print, cases: u64) {
     host_io::write_all(rt, b"bad case ");
     host_io::print_decimal(rt, cases);
@@ -509,20 +441,14 @@ fn bad(rt: &impl Print, cases: u64) {
 // A proved loop has to end, and nothing says that the input does: it stops after 2 ^ 32 cases, which no run reaches.
 fn main(rt: HostRuntime) {
     for cases in 0..0x1_0000_0000u64 {
-        match run_hex::read(&rt) {
-            Line::End => {
-                return;
-            }
-            Line::Bad => {
-                bad(&rt, cases);
-                return;
-            }
-            Line::Pattern(which) => {
-                if !case(&rt, which as usize) {
-                    bad(&rt, cases);
-                    return;
-                }
-            }
+        let answered = match run_hex::read(&rt) {
+            Line::End => return,
+            Line::Bad => None,
+            Line::Pattern(number) => case(&rt, number),
+        };
+        if answered.is_none() {
+            bad(&rt, cases);
+            return;
         }
     }
 }

@@ -3,15 +3,12 @@
 #![tactic(auto)]
 
 use params::MsarParams;
-use refusal::Check;
+use refusal::Refusal;
 
 // Two regimes of order 0 with the columns (a, c) and (b, d).
 fn two_by_two(a: f64, b: f64, c: f64, d: f64) -> MsarParams {
     let mut transition = [0.0; 256];
-    transition[0] = a;
-    transition[1] = b;
-    transition[2] = c;
-    transition[3] = d;
+    transition[..4].copy_from_slice(&[a, b, c, d]);
     let mut means = [0.0; 16];
     means[1] = 1.0;
     let mut variances = [0.0; 16];
@@ -35,22 +32,24 @@ fn pattern(rt: &impl Print, x: f64) {
     host_io::print_hex(rt, number::pattern(x));
 }
 
+fn answered(rt: &impl Print, shares: [f64; 16]) {
+    host_io::write_all(rt, b"shares");
+    pattern(rt, shares[0]);
+    pattern(rt, shares[1]);
+}
+
+fn refused(rt: &impl Print, r: Refusal) {
+    host_io::write_all(rt, b"refused ");
+    host_io::print_decimal(rt, r.number() as u64);
+    host_io::write_all(rt, b" ");
+    host_io::print_decimal(rt, r.place() as u64);
+    pattern(rt, r.value());
+}
+
 fn show(rt: &impl Print, q: MsarParams) {
-    let s = stationary::stationary_shares(q);
-    let check = s.check;
-    match check {
-        Check::Passed => {
-            host_io::write_all(rt, b"shares");
-            pattern(rt, s.values[0]);
-            pattern(rt, s.values[1]);
-        }
-        Check::Failed(r) => {
-            host_io::write_all(rt, b"refused ");
-            host_io::print_decimal(rt, r.number() as u64);
-            host_io::write_all(rt, b" ");
-            host_io::print_decimal(rt, r.place() as u64);
-            pattern(rt, r.value());
-        }
+    match stationary::stationary_shares(q) {
+        Ok(shares) => answered(rt, shares),
+        Err(r) => refused(rt, r),
     }
     host_io::write_all(rt, b"\n");
 }

@@ -10,30 +10,24 @@
 use params::MsarParams;
 use run_hex::Line;
 use std::io::Input;
-use text_words::least;
 
 // So many digits of the line, behind those that `unit` counts.
 fn field(word: u64, unit: u64, size: u64) -> usize {
-    if unit == 0 {
-        return 0;
-    }
-    if size == 0 {
+    if (unit == 0) | (size == 0) {
         return 0;
     }
     (word / unit % size) as usize
 }
 
+// Beyond the values +0. As in msar_out, which this program does not link.
 fn entry(values: &[f64], i: usize) -> f64 {
-    if i < values.len() {
-        return values[i];
-    }
-    0.0
+    values.get(i).copied().unwrap_or(0.0)
 }
 
 // Writes the first n numbers, and a word for each place past them that is not +0.
 fn numbers(rt: &impl Print, values: &[f64], n: usize) -> bool {
-    for e in 0..values.len() {
-        let bits = number::pattern(values[e]);
+    for (e, x) in values.iter().enumerate() {
+        let bits = number::pattern(*x);
         if e < n {
             if !run_hex::write(rt, bits, b' ') {
                 return false;
@@ -53,17 +47,14 @@ fn parameters(rt: &impl Print, q: MsarParams) -> bool {
 }
 
 fn say(rt: &impl Print, holds: bool) -> bool {
-    if holds {
-        return host_io::write_all(rt, b"yes");
-    }
-    host_io::write_all(rt, b"no")
+    host_io::write_all(rt, if holds { b"yes" } else { b"no" })
 }
 
 // A record with these variances, and zeros.
 fn with_variances(y: &[f64], count: usize) -> MsarParams {
     let mut variances = [0.0; 16];
-    for g in 0..16usize {
-        variances[g] = entry(y, g);
+    for (variance, x) in variances.iter_mut().zip(y) {
+        *variance = *x;
     }
     MsarParams {
         transition: [0.0; 256],
@@ -79,6 +70,7 @@ fn with_variances(y: &[f64], count: usize) -> MsarParams {
     }
 }
 
+// The kind is the number that the line has.
 fn answer(rt: &impl Print, y: &[f64], word: u64) -> bool {
     let i = field(word, 0x1_0000_0000, 0x1_0000);
     let k = field(word, 0x100_0000, 0x100);
@@ -113,12 +105,9 @@ fn series(rt: &(impl Print + Input)) -> bool {
     let Line::Pattern(word) = run_hex::read(rt) else {
         return false;
     };
-    let n = run_hex::numbers(
-        rt,
-        &mut y,
-        least(field(word, 0x1_0000_0000, 0x1_0000), 4096),
-    );
-    questions(rt, &y[0..n], field(word, 1, 0x1_0000_0000))
+    let count = field(word, 0x1_0000_0000, 0x1_0000).min(4096);
+    let n = run_hex::numbers(rt, &mut y, count);
+    questions(rt, &y[..n], field(word, 1, 0x1_0000_0000))
 }
 
 // A proved loop has to end, and nothing says that the input does: it stops after a million series, which no run reaches.

@@ -5,9 +5,9 @@
 // `too large`, every NaN as 7ff8000000000000; or `bad line N`, which ends the run.
 #![tactic(auto)]
 
-ghost use Rattle.std.specs.Prelude.{◌≤◌, ◌<◌, ◌^◌};
+ghost use Rattle.std.specs.Prelude.{◌≡◌, ◌≤◌, ◌<◌, ◌^◌, IfSome};
 
-use linsolve::{Outcome, Solution};
+use linsolve::Unsolved;
 use run_hex::Line;
 use std::io::Input;
 
@@ -15,32 +15,18 @@ use std::io::Input;
 fn unknowns(rt: &impl Print, x: &[f64; 16], n: usize) -> bool
     requires { n ≤ 16 }
 {
-    for i in 0..n {
-        if !run_hex::write(rt, number::pattern(x[i]), b'\n') {
-            return false;
-        }
-    }
-    true
+    x[..n]
+        .iter()
+        .all(|v| run_hex::write(rt, number::pattern(*v), b'\n'))
 }
 
-// Whether every place from n on is positive zero.
-fn zero_from(x: &[f64; 16], n: usize) -> bool {
-    for i in n..16 {
-        if number::pattern(x[i]) != 0 {
-            return false;
-        }
-    }
-    true
-}
-
-// Writes the first n unknowns, and a line more where a place past them is not zero.
+// Writes the first n unknowns, and a line more where a place past them is not positive zero.
 fn places(rt: &impl Print, x: &[f64; 16], n: usize) -> bool
     requires { n ≤ 16 }
 {
-    if !unknowns(rt, x, n) {
-        return false;
-    }
-    zero_from(x, n) || host_io::write_all(rt, b"not zero past n\n")
+    unknowns(rt, x, n)
+        && (x[n..].iter().all(|v| number::pattern(*v) == 0)
+            || host_io::write_all(rt, b"not zero past n\n"))
 }
 
 // Writes the column at which elimination stopped, and says whether that went through.
@@ -51,15 +37,13 @@ fn singular(rt: &impl Print, column: u8) -> bool {
 }
 
 // Writes the answer to a system of n equations, and says whether that went through.
-fn write(rt: &impl Print, s: Solution, n: usize) -> bool
+fn write(rt: &impl Print, answer: Result<[f64; 16], Unsolved>, n: usize) -> bool
     requires { n ≤ 16 }
 {
-    let outcome = s.outcome;
-    let x = s.x;
-    match outcome {
-        Outcome::Solved => host_io::write_all(rt, b"solved\n") && places(rt, &x, n),
-        Outcome::Singular(column) => singular(rt, column) && places(rt, &x, 0),
-        Outcome::TooLarge => host_io::write_all(rt, b"too large\n") && places(rt, &x, 0),
+    match answer {
+        Ok(x) => host_io::write_all(rt, b"solved\n") && places(rt, &x, n),
+        Err(Unsolved::Singular(column)) => singular(rt, column),
+        Err(Unsolved::TooLarge) => host_io::write_all(rt, b"too large\n"),
     }
 }
 
@@ -71,49 +55,53 @@ fn cells(n: usize) -> usize
     n * n
 }
 
-// Answers the system of n equations whose numbers come next, after `before` lines. Says how many lines are read then, or 0
+// Answers the system of n equations whose numbers come next, after `before` lines. Says how many lines are read then, or None
 // where the run is over.
-fn numbered(rt: &(impl Print + Input), n: usize, before: u64) -> u64
+fn numbered(rt: &(impl Print + Input), n: usize, before: u64) -> Option<u64>
     requires { (n ≤ 16) × (before ≤ 2 ^ 40) }
+    ensures { IfSome result (λ lines. before ≤ lines) }
 {
     let mut a = [0.0; 256];
     let mut b = [0.0; 16];
     let in_table = run_hex::numbers(rt, &mut a, cells(n));
     if in_table < cells(n) {
         run_hex::bad_line(rt, before + in_table as u64 + 1);
-        return 0;
+        return None;
     }
     let in_side = run_hex::numbers(rt, &mut b, n);
     let after = before + (in_table + in_side) as u64;
     if in_side < n {
         run_hex::bad_line(rt, after + 1);
-        return 0;
+        return None;
     }
     if write(rt, linsolve::solve(a, b, n), n) {
-        after
+        Some(after)
     } else {
-        0
+        None
     }
 }
 
 // The same where n is above 16, and so no numbers come.
-fn unnumbered(rt: &impl Print, n: usize, before: u64) -> u64 {
+fn unnumbered(rt: &impl Print, n: usize, before: u64) -> Option<u64>
+    ensures { IfSome result (λ lines. lines ≡ before) }
+{
     if write(rt, linsolve::solve([0.0; 256], [0.0; 16], n), 0) {
-        before
+        Some(before)
     } else {
-        0
+        None
     }
 }
 
-// Answers the next system, after `before` lines. Says how many lines are read then, or 0 where the run is over.
-fn system(rt: &(impl Print + Input), before: u64) -> u64
+// Answers the next system, after `before` lines. Says how many lines are read then, or None where the run is over.
+fn system(rt: &(impl Print + Input), before: u64) -> Option<u64>
     requires { before < 2 ^ 40 }
+    ensures { IfSome result (λ lines. before < lines) }
 {
     match run_hex::read(rt) {
-        Line::End => 0,
+        Line::End => None,
         Line::Bad => {
             run_hex::bad_line(rt, before + 1);
-            0
+            None
         }
         Line::Pattern(n) => {
             let size = n as usize;
@@ -126,14 +114,14 @@ fn system(rt: &(impl Print + Input), before: u64) -> u64
     }
 }
 
-// A proved loop has to end, and nothing says that the input does: it stops after 2 ^ 40 lines, which no run reaches.
+// A proved loop has to end, and nothing says that the input does: it stops after 2 ^ 40 lines, which no run reaches. No `for`, as
+// each system takes lines of its own count.
 fn main(rt: HostRuntime) {
     let mut lines: u64 = 0;
     while lines < 0x100_0000_0000 {
-        let next = system(&rt, lines);
-        if next <= lines {
+        let Some(after) = system(&rt, lines) else {
             return;
-        }
-        lines = next;
+        };
+        lines = after;
     }
 }

@@ -34,8 +34,9 @@ fn next(rt: &(impl Print + Input), before: u64) -> bool
 
 // A proved loop has to end, and nothing says that the input does: it stops after 2 ^ 40 lines, which no run reaches.
 fn main(rt: HostRuntime) {
-    let mut lines: u64 = 0;
-    'reading: while lines < 0x100_0000_0000 && next(&rt, lines) {
-        lines += 1;
+    for lines in 0..0x100_0000_0000 {
+        if !next(&rt, lines) {
+            return;
+        }
     }
 }

@@ -1,10 +1,10 @@
 -- The rows in memory while the smoother goes back over them: before row i the filtered rows stand, from row i on the smoothed ones. Rows do not
 -- overlap. Assumes nothing.
 use Prim.Native.Nat.{ℕ, suc, ◌+◌, ◌-◌, ◌*◌, ◌^◌, ◌<◌, ◌≤◌}
-use mathlib.Core.Path.{◌≡◌, refl, sym, subst, ◌∙◌}
+use mathlib.Core.Path.{◌≡◌, refl, sym, ap, subst, ◌∙◌}
 use mathlib.Core.Logic.{⊎_elim}
 use mathlib.Core.List.{List}
-use native.Mathlib.Nat.{suc-mul, eq-or-lt_of_le, pow-suc}
+use native.Mathlib.Nat.{suc-mul, eq-or-lt_of_le}
 use native.Mathlib.Omega.{arith}
 use lib.ListN.{length, drop}
 use lib.Ieee.{Float}
@@ -12,17 +12,15 @@ use Rattle.number.specs.Table.{fill_at}
 use Rattle.number.proofs.Table.{row_before}
 use Rattle.params.specs.declared.MsarParams.{MsarParams}
 use Rattle.params.specs.Parameters.{k, p}
+use Rattle.window.specs.declared.Sizes.{Sizes}
 use Rattle.rows.specs.Rows.{Same}
 use Rattle.rows.specs.Memory.{predicted_from, filtered_from}
 use Rattle.rows.proofs.Stored.{stored_long, stored_there, stored_before, stored_behind, stored_rest}
 use Rattle.smoother.specs.Smoother.{smoothed_row}
 use Rattle.smoother.specs.Steps.{Sharing, smoothed_in}
-use Rattle.smoother.specs.InMemory.{Stand, SmoothedRows}
+use Rattle.smoother.specs.InMemory.{Stand}
 use Rattle.smoother.proofs.Row.{weight_same}
-
--- the windows are as many as the code says
-pub windows : (q : MsarParams) {power : ℕ} → power ≡ k q ^ p q → power * k q ≡ k q ^ suc (p q)
-windows q e = rw (e, pow-suc)
+use Rattle.smoother.proofs.Common.{positive}
 
 -- row i - 1 with the one that follows it, and the prediction of row i, among n rows
 pub within : (m i n : ℕ) → 0 < i → i < n → ((i - 1) * m + 2 * m ≤ n * m) × (n * m + (i - 1) * m + m + m ≤ 2 * (n * m))
@@ -52,9 +50,6 @@ module _ (q : MsarParams) (n : ℕ) where
     ahead = λ j b a x. refl;
     done = λ P F hp hf j b b'. let e : n - 1 - j ≡ 0 = omega arith in rw e (hf j b');
   }
-
-  pub back_last : {before after : List Float} → Back 0 before after → SmoothedRows q n before after
-  back_last w = record { long = w.long; rest = w.rest; rows = λ P F hp hf j b. w.done P F hp hf j (omega arith) b }
 
   -- ---- one row further back
 
@@ -101,12 +96,20 @@ module _ (q : MsarParams) (n : ℕ) where
           (eq-or-lt_of_le l);
     }
 
-  -- ---- the same in the code's words: the count of windows as a product, and the row before row i
+  -- ---- the same in the code's words: by the sizes that it has, and for the row before row i
 
-  module _ (power : ℕ) (c : power ≡ k q ^ p q) (pos : 0 < k q) {count stride blocks : ℕ} (shared : Sharing (k q) power count stride blocks) where
-    pub back_step : (i : ℕ) → 0 < i → i < n → {before after after' : List Float} → 2 * (n * m) ≤ length before → Back i before after
-        → after' ≡ fill_at ((i - 1) * (power * k q)) (smoothed_in (k q) (power * k q) count stride q.transition ((i - 1) * (power * k q)) (n * (power * k q) + (i - 1) * (power * k q) + power * k q) after) (power * k q) after
+  module _ (sizes : Sizes) (ek : sizes.k ≡ k q) (ep : sizes.order ≡ p q) where
+    windows : sizes.windows ≡ m
+    windows = sizes.windows_value ∙ ap (λ (x : ℕ). x ^ suc sizes.order) ek ∙ ap (λ (x : ℕ). k q ^ suc x) ep
+
+    power : sizes.power ≡ k q ^ p q
+    power = sizes.power_value ∙ ap (λ (x : ℕ). x ^ sizes.order) ek ∙ ap (λ (x : ℕ). k q ^ x) ep
+
+    pub back_step : {count stride blocks : ℕ} → Sharing sizes.k sizes.power count stride blocks → (i : ℕ) → 0 < i → i < n → {before after after' : List Float}
+        → 2 * (n * sizes.windows) ≤ length before → Back i before after
+        → after' ≡ fill_at ((i - 1) * sizes.windows) (smoothed_in sizes.k sizes.windows count stride q.transition ((i - 1) * sizes.windows) (n * sizes.windows + (i - 1) * sizes.windows + sizes.windows) after) sizes.windows after
         → Back (i - 1) before after'
-    back_step i z h {before} {after} b w e =
+    back_step shared i z h {before} {after} b w e =
         let u : i ≡ suc (i - 1) = omega arith in
-        back_more pos (rw c at shared) (i - 1) (omega arith) b (subst (λ (x : ℕ). Back x before after) u w) (rw (windows q c) at e)
+        let pos : 0 < k q = subst (λ (x : ℕ). 0 < x) ek (positive sizes) in
+        back_more pos (rw (ek, power) at shared) (i - 1) (omega arith) (rw windows at b) (subst (λ (x : ℕ). Back x before after) u w) (rw (ek, windows) at e)

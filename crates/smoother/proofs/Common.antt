@@ -1,22 +1,14 @@
--- How windows share sums, at order 0 and at a higher one; that a shared sum's successors lie within a row. Assumes nothing.
+-- How windows share sums above order 0; that a shared sum's successors lie within a row. Assumes nothing.
 use Prim.Native.Nat.{ℕ, zero, suc, ◌+◌, ◌*◌, ◌%◌, ◌^◌, ◌<◌, ◌≤◌}
 use mathlib.Core.Path.{◌≡◌, refl, ◌∙◌}
 use mathlib.Core.Logic.{◌≢◌}
 use mathlib.Core.List.{List}
-use native.Mathlib.Nat.{pow-zero, pow-suc, mod-one, mod-lt, mod-mod, mod-eq_of_lt, mul-zero, zero-mul, mul_comm, mul-pos, mul-le-mul_right, suc-mul, pow-le-pow_right}
+use native.Mathlib.Nat.{pow-zero, pow-suc, mod-lt, mod-eq_of_lt, zero-mul, mul_comm, mul-pos, mul-le-mul_right, suc-mul, pow-le-pow_right}
 use native.Mathlib.Omega.{arith}
 use lib.Arith.{mod-mul, digits_mod}
 use lib.Ieee.{Float}
+use Rattle.window.specs.declared.Sizes.{Sizes}
 use Rattle.smoother.specs.Steps.{sum_after, Sharing, shared_sum}
-
--- each label has its own sum
-pub own_sums : (k power : ℕ) → 0 < k → power ≡ 1 → Sharing k power k 0 1
-own_sums k power h e = record {
-  some = h;
-  bases = λ a. rw (e, mod-one, mul-zero, zero-mul);
-  labels = λ a. mod-mod a k;
-  whole = rw e;
-}
 
 -- what is left of a number past k^p has the same last digit
 last_digit : (k p a : ℕ) → 0 < k → 0 < k ^ p → a % (k ^ suc p) % k ≡ a % k
@@ -50,6 +42,31 @@ module _ {k power count stride blocks : ℕ} (w : Sharing k power count stride b
       at_least : (b : ℕ) → b * count ≡ power * k → 0 < power * k → count ≤ power * k
       at_least zero e l = omega (arith, e, zero-mul count)
       at_least (suc b) e l = omega (arith, e, suc-mul b count)
+
+-- ---- windows of the sizes that the code has
+
+module _ (sizes : Sizes) where
+  pub positive : 0 < sizes.k
+  positive = let l = sizes.shape.low in omega arith
+
+  pub power_positive : 0 < sizes.power
+  power_positive = rw sizes.power_value (power_above sizes.k sizes.order positive)
+
+  pub windows_are : sizes.power * sizes.k ≡ sizes.windows
+  windows_are = rw (sizes.power_value, sizes.windows_value, pow-suc)
+
+  pub windows_few : sizes.windows ≤ 256
+  windows_few = rw sizes.windows_value sizes.shape.few
+
+  module _ {count stride blocks : ℕ} (w : Sharing sizes.k sizes.power count stride blocks) where
+    pub all_windows : blocks * count ≡ sizes.windows
+    all_windows = w.whole ∙ windows_are
+
+    pub sums_fit : count ≤ 256
+    sums_fit = omega (arith, sums_few w positive power_positive, windows_are, windows_few)
+
+    pub successors_fit : (c : ℕ) → c < count → c * stride + sizes.k ≤ sizes.windows
+    successors_fit c l = rw windows_are at (sum_in_row w power_positive c l)
 
 -- the sum of a label that is c's
 pub sum_of_label : (k stride : ℕ) (T smoothed predicted : List Float) (c : ℕ) {s : ℕ} {v : Float} → s ≡ c % k

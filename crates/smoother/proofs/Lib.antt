@@ -1,5 +1,3 @@
--- the sum over successors, one term further
-mod After
 -- windows that share a sum
 mod Common
 -- rows times their sums

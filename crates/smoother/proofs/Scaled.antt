@@ -39,13 +39,13 @@ block_more sums count at x l {m} e e' h =
     ∙ rw (add-one, suc-mul)
 
 -- a row times the sums that its windows share is the smoothed row
-pub row_done : {k power count stride blocks : ℕ} (w : Sharing k power count stride blocks) (T : List Float) (at ahead : ℕ) (l sums₀ : List Float)
+pub row_done : {k power count stride blocks : ℕ} (w : Sharing k power count stride blocks) (m : ℕ) (T : List Float) (at ahead : ℕ) (l sums₀ : List Float)
     {l' sums : List Float}
-    → sums ≡ fill_at 0 (shared_sum k stride T (drop (at + power * k) l) (drop ahead l)) count sums₀
-    → l' ≡ fill_at at (blockwise count sums (drop at l)) (blocks * count) l
-    → l' ≡ fill_at at (smoothed_in k (power * k) count stride T at ahead l) (power * k) l
+    → sums ≡ fill_at 0 (shared_sum k stride T (drop (at + m) l) (drop ahead l)) count sums₀
+    → l' ≡ fill_at at (blockwise count sums (drop at l)) m l
+    → l' ≡ fill_at at (smoothed_in k m count stride T at ahead l) m l
 unfolding blockwise smoothed_in
-row_done {count = count} w T at ahead l sums₀ e e' =
-    rw w.whole at e'
+row_done {count = count} w m T at ahead l sums₀ e e' =
+    e'
     ∙ fill_at_ext at _ _ l _
     (λ a b. ap (λ x. drop at l ! a ⊗ x) (rw zero-add at (fill_at_at 0 _ count sums₀ e (a % count) (mod-lt a w.some) (omega arith))))

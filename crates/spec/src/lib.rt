@@ -6,7 +6,7 @@ ghost use Rattle.spec.specs.Spec.{window_count};
 
 use refusal::Refusal;
 
-#[derive(Clone, Copy)]
+#[derive(Clone, Copy, PartialEq, Eq)]
 pub struct MsarSpec {
     pub k_regimes: usize,
     pub order: usize,
@@ -14,40 +14,32 @@ pub struct MsarSpec {
     pub switching_variance: bool,
 }
 
-#[derive(Clone, Copy)]
-pub enum Windows {
-    Count(usize),
-    Refused(Refusal),
-}
-
 // k ^ (order + 1), for every k and order: it stops at the first power above 256, so no product wraps.
-fn window_count(k: usize, order: usize) -> Windows
+fn window_count(k: usize, order: usize) -> Result<usize, Refusal>
     ensures { result ≡ window_count k order }
 {
     if k < 2 {
-        return Windows::Refused(Refusal::FewRegimes(k));
+        return Err(Refusal::FewRegimes(k));
     }
     if k > 256 {
-        return Windows::Refused(Refusal::ManyWindows(k));
+        return Err(Refusal::ManyWindows(k));
     }
     let mut m = k;
-    let mut i = 0;
-    while i < order {
+    for _ in 0..order {
         m = m * k;
         if m > 256 {
-            return Windows::Refused(Refusal::ManyWindows(k));
+            return Err(Refusal::ManyWindows(k));
         }
-        i += 1;
     }
     if k > 16 {
-        return Windows::Refused(Refusal::ManyRegimes(k));
+        return Err(Refusal::ManyRegimes(k));
     }
-    Windows::Count(m)
+    Ok(m)
 }
 
 impl MsarSpec {
     // The number of windows, or refusal 1, 2 or 3.
-    pub fn expanded_states(self) -> Windows
+    pub fn expanded_states(self) -> Result<usize, Refusal>
         ensures { result ≡ window_count self.k_regimes self.order }
     {
         window_count(self.k_regimes, self.order)

@@ -7,12 +7,10 @@ use borrow.Author.Tests.{lt-ltb, le-ltb}
 use Rattle.rounding.proofs.Choose.{le_or_lt}
 use Rattle.refusal.specs.declared.Refusal.{Refusal}
 use Rattle.refusal.specs.declared.Refusal.TheVariants.{FewMeans, Beyond}
-use Rattle.refusal.specs.declared.Check.{Check}
-use Rattle.refusal.specs.declared.Check.TheVariants.{Passed, Failed}
+use Rattle.refusal.specs.Checks.{Check, Passed, Failed}
 use Rattle.params.specs.Parameters.{k}
 use Rattle.params.specs.Checks.{parameter_check}
 use Rattle.params.specs.declared.MsarParams.{MsarParams}
-use Rattle.stationary.specs.Stationary.{none, solved_shares, shares_of}
 
 not_both : {c : Check} {r : Refusal} → c ≡ Passed → c ≡ Failed r → ⊥
 not_both p f = let z : ◌≡◌ {A = ℕ} 0 1 = cc in omega arith
@@ -34,13 +32,3 @@ counted q p = elim (le_or_lt 2 (k q)) [
   | inl l ↦ record { from = l; within = elim (le_or_lt (k q) 16) [ inl m ↦ m | inr g ↦ absurd (not_both p (many_fails q l g)) ] }
   | inr g ↦ absurd (not_both p (few_fails q g))
 ]
-
--- ---- what the whole gives
-
-pub shares_refused : (q : MsarParams) {r : Refusal} → parameter_check q ≡ Failed r → none r ≡ shares_of q
-unfolding shares_of
-shares_refused q e = rw e
-
-pub shares_solved : (q : MsarParams) → parameter_check q ≡ Passed → solved_shares (k q) q.transition ≡ shares_of q
-unfolding shares_of
-shares_solved q e = rw e

@@ -1,24 +1,18 @@
 -- The stationary shares π of the regimes: P π = π with sum 1, solved as (I - P) π = 0 with the last equation replaced by the sum.
 -- After Hamilton (1994), 22.2, and document 01, "Stationary shares", refusals 21 and 22.
-use Rattle.std.specs.Prelude.{ℕ, suc, ◌*◌, ◌/◌, ◌%◌, Bool, not, ◌&&◌, List, replicate, Float, if◌then◌else◌}
+use Rattle.std.specs.Prelude.{ℕ, suc, ◌*◌, ◌/◌, ◌%◌, Bool, not, ◌&&◌, List, replicate, Float, if◌then◌else◌, Result, Ok, Err}
 use Rattle.std.specs.Float.Ieee.{le}
 use Rattle.std.specs.Float.Ieee.Scale.{finite}
 use Rattle.number.specs.Number.{◌=?◌, ◌⊖◌, float, zero⁺, one}
 use Rattle.number.specs.Table.{◌!◌, cell, fill_at}
-use Rattle.refusal.specs.Checks.{◌when◌, each}
-use Rattle.refusal.specs.declared.Check.{Check}
-use Rattle.refusal.specs.declared.Check.TheVariants.{Passed, Failed}
+use Rattle.refusal.specs.Checks.{Check, ◌when◌, ◌before◌, each}
 use Rattle.refusal.specs.declared.Refusal.{Refusal}
 use Rattle.refusal.specs.declared.Refusal.TheVariants.{Singular, Share}
-use Rattle.linsolve.specs.Solver.{solve_of}
-use Rattle.linsolve.specs.declared.Solution.{Solution}
-use Rattle.linsolve.specs.declared.Outcome.{Outcome}
-use Rattle.linsolve.specs.declared.Outcome.TheVariants.{Solved, TooLarge}
-use Rattle.linsolve.specs.declared.Outcome.TheVariants as answers
+use Rattle.linsolve.specs.Solver.{solve_of, column_of}
+use Rattle.linsolve.specs.declared.Unsolved.{Unsolved}
 use Rattle.params.specs.Parameters.{k}
 use Rattle.params.specs.Checks.{parameter_check}
 use Rattle.params.specs.declared.MsarParams.{MsarParams}
-use Rattle.stationary.specs.declared.Shares.{Shares}
 
 -- ---- the system, of n regimes with transition table T
 
@@ -53,33 +47,23 @@ hair = float 0xBE11_2E0B_E826_D695
 unfoldable pub share_check : List Float → ℕ → Check
 share_check x i = Share i (x ! i) when not (finite (x ! i) && le hair (x ! i))
 
-abbrev pub none : Refusal → Shares
-none r = record { check = Failed r; values = replicate 16 zero⁺ }
+-- 21 with place 0 and the solver's column, where the system is singular; then 22
+abbrev pub after : ℕ → Result (List Float) Unsolved → Result (List Float) Refusal
+after n (Ok x) = each n (share_check x) before Ok x
+after n (Err why) = Err (Singular 0 (column_of why))
 
-abbrev pub kept : Check → List Float → Shares
-kept Passed x = record { check = Passed; values = x }
-kept (Failed r) x = none r
+unfoldable pub solved_shares : ℕ → List Float → Result (List Float) Refusal
+solved_shares n T = after n (solve_of n (share_table n T) (share_sides n))
 
--- 21 where the system is singular, its place 0, with the solver's column; then 22. n is at most 16, so nothing is too large
-abbrev pub after : Outcome → List Float → ℕ → Shares
-after Solved x n = kept (each n (share_check x)) x
-after (answers.Singular c) x n = none (Singular 0 c)
-after TooLarge x n = none (Singular 0 0)
-
-abbrev pub answered : Solution → ℕ → Shares
-answered S n = after S.outcome S.x n
-
-unfoldable pub solved_shares : ℕ → List Float → Shares
-solved_shares n T = answered (solve_of n (share_table n T) (share_sides n)) n
-
--- the shares of the labels before the first reading, and their check: what every call starts from
-abbrev pub start_shares : MsarParams → Shares
+-- the shares of the labels before the first reading, or their refusal: what every call starts from
+abbrev pub start_shares : MsarParams → Result (List Float) Refusal
 start_shares q = solved_shares (k q) q.transition
 
--- the parameter checks first
-abbrev pub checked : Check → Shares → Shares
-checked Passed s = s
-checked (Failed r) s = none r
+-- the shares themselves, positive zeros where there are none
+abbrev pub values_of : Result (List Float) Refusal → List Float
+values_of (Ok x) = x
+values_of (Err r) = replicate 16 zero⁺
 
-unfoldable pub shares_of : MsarParams → Shares
-shares_of q = checked (parameter_check q) (start_shares q)
+-- the parameter checks first
+unfoldable pub shares_of : MsarParams → Result (List Float) Refusal
+shares_of q = parameter_check q before start_shares q

@@ -3,20 +3,12 @@
 
 ghost use Rattle.std.specs.Prelude.{◌≡◌, ◌<◌, ◌≤◌};
 ghost use Rattle.refusal.specs.Checks.{each};
-ghost use Rattle.stationary.specs.Stationary.{entry, side, share_table, share_sides, share_check, none, solved_shares, shares_of};
+ghost use Rattle.stationary.specs.Stationary.{entry, side, share_table, share_sides, share_check, solved_shares, shares_of};
 
-use linsolve::Outcome;
 use params::MsarParams;
-use refusal::{Check, Refusal};
+use refusal::Refusal;
 
 const HAIR: f64 = -1e-9;
-
-// The shares, or the refusal that stands in their place.
-#[derive(Clone, Copy)]
-pub struct Shares {
-    pub check: Check,
-    pub values: [f64; 16],
-}
 
 // Place e of the table I - P, its last row ones: row e / n and column e % n.
 fn entry_at(transition: &[f64; 256], n: usize, e: usize) -> f64
@@ -37,10 +29,8 @@ fn table_of(transition: &[f64; 256], n: usize) -> [f64; 256]
     ensures { result ≡ share_table n transition.now }
 {
     let mut a = [0.0; 256];
-    let mut e = 0;
-    while e < n * n {
+    for e in 0..n * n {
         a[e] = entry_at(transition, n, e);
-        e += 1;
     }
     a
 }
@@ -50,10 +40,8 @@ fn sides_of(n: usize) -> [f64; 16]
     ensures { result ≡ share_sides n }
 {
     let mut b = [0.0; 16];
-    let mut i = 0;
-    while i < n {
+    for i in 0..n {
         b[i] = side_at(n, i);
-        i += 1;
     }
     b
 }
@@ -69,65 +57,37 @@ fn side_at(n: usize, i: usize) -> f64
 }
 
 // 22 at the first share that is not finite or below -1e-9. None is clipped.
-fn check_shares(x: &[f64; 16], n: usize) -> Check
+fn check_shares(x: &[f64; 16], n: usize) -> Result<(), Refusal>
     requires { n ≤ 16 }
     ensures { result ≡ each n (share_check x.now) }
 {
-    let mut i = 0;
-    while i < n {
-        let v = x[i];
+    for (i, &v) in x[..n].iter().enumerate() {
         if !number::is_finite(v) {
-            return Check::Failed(Refusal::Share(i, v));
+            return Err(Refusal::Share(i, v));
         }
         if !(v >= HAIR) {
-            return Check::Failed(Refusal::Share(i, v));
+            return Err(Refusal::Share(i, v));
         }
-        i += 1;
     }
-    Check::Passed
+    Ok(())
 }
 
 // The shares of n regimes with a transition table that passed the checks.
-pub fn solved_shares(transition: &[f64; 256], n: usize) -> Shares
+pub fn solved_shares(transition: &[f64; 256], n: usize) -> Result<[f64; 16], Refusal>
     requires { (n ≤ 16) × (0 < n) }
     ensures { result ≡ solved_shares n transition.now }
 {
     let a = table_of(transition, n);
     let b = sides_of(n);
-    let s = linsolve::solve(a, b, n);
-    let outcome = s.outcome;
-    let x = s.x;
-    match outcome {
-        Outcome::Solved => {}
-        Outcome::Singular(column) => return none(Refusal::Singular(0, column)),
-        Outcome::TooLarge => return none(Refusal::Singular(0, 0)),
-    }
-    match check_shares(&x, n) {
-        Check::Passed => Shares {
-            check: Check::Passed,
-            values: x,
-        },
-        Check::Failed(r) => none(r),
-    }
-}
-
-// A refusal, with no shares.
-fn none(r: Refusal) -> Shares
-    ensures { result ≡ none r }
-{
-    Shares {
-        check: Check::Failed(r),
-        values: [0.0; 16],
-    }
+    let x = linsolve::solve(a, b, n).map_err(|why| Refusal::Singular(0, why.column()))?;
+    check_shares(&x, n)?;
+    Ok(x)
 }
 
 // The stationary shares: the parameter checks first, then 21 with place 0 and the solver's column, then 22.
-pub fn stationary_shares(q: MsarParams) -> Shares
+pub fn stationary_shares(q: MsarParams) -> Result<[f64; 16], Refusal>
     ensures { result ≡ shares_of q }
 {
-    match q.check() {
-        Check::Passed => {}
-        Check::Failed(r) => return none(r),
-    }
+    q.check()?;
     solved_shares(&q.transition, q.means_count)
 }

@@ -10,9 +10,8 @@ use lib.Dec.{lit<}
 use Rattle.text_decimal_grammar.specs.declared.Place.{Place}
 use Rattle.text_decimal_grammar.specs.declared.Place.TheVariants.{Sign, Whole, Fraction, Mark, MarkSign, Exponent}
 use Rattle.text_decimal_grammar.specs.declared.State.{State}
-use Rattle.text_decimal_grammar.specs.declared.Next.{Next}
-use Rattle.text_decimal_grammar.specs.declared.Next.TheVariants.{Go}
-use Rattle.text_decimal_read.specs.declared.Parsed.TheVariants.{Number}
+use Rattle.std.proofs.Common.{Option, Some}
+use Rattle.std.proofs.Common.{Ok}
 use Rattle.text_decimal_write.specs.declared.Decimal.{Decimal}
 use Rattle.number.specs.Number.{◌<?◌}
 use Rattle.text_decimal_grammar.specs.Grammar.{digit_of, nothing, moved, minus, minus_exponent, whole_digit, fraction_digit, exponent_digit, mark, after_sign, at_start, in_whole, in_fraction, in_exponent, after_mark, step_at, step}
@@ -23,35 +22,32 @@ use Rattle.text_limbs.proofs.Tens.{ten_pos, mod_of}
 abbrev pub st : Place → Bool → ℕ → ℕ → Bool → ℕ → State
 st p s d n u e = record { place = p; negative = s; digits = d; up = 0; down = n; under = u; exponent = e }
 
-digit_of_lem : (d : ℕ) → d < 10 → digit_of (48 + d) ≡ d
+digit_of_lem : (d : ℕ) → d < 10 → digit_of (48 + d) ≡ Some d
 unfolding digit_of
-digit_of_lem d h =
-    ap (λ (b : Bool). cond b 10 (cond (57 <? 48 + d) 10 (48 + d - 48))) (le-ltb (48 + d) 48 (omega arith))
-    ∙ ap (λ (b : Bool). cond b 10 (48 + d - 48)) (le-ltb 57 (48 + d) (omega arith))
-    ∙ omega arith
+digit_of_lem d h = rw (le-ltb (48 + d) 48 (omega arith), le-ltb 57 (48 + d) (omega arith)) (ap Some (omega arith))
 
 -- one byte more
-onto : (s s' : State) (c i : ℕ) (t : List ℕ) → step s c ≡ Go s' → scan s i (c ∷ t) ≡ scan s' (suc i) t
+onto : (s s' : State) (c i : ℕ) (t : List ℕ) → step s c ≡ Some s' → scan s i (c ∷ t) ≡ scan s' (suc i) t
 unfolding scan
-onto s s' c i t e = ap (λ (x : Next). onward x i (λ next. scan next (suc i) t)) e
+onto s s' c i t e = ap (λ (x : Option State). onward x i (λ next. scan next (suc i) t)) e
 
 -- ---- the first digit
 
-start_digit : (q : ℕ) → 0 < q → q < 10 → step nothing (48 + q) ≡ Go (st Whole false q 0 false 0)
+start_digit : (q : ℕ) → 0 < q → q < 10 → step nothing (48 + q) ≡ Some (st Whole false q 0 false 0)
 unfolding step step_at nothing at_start after_sign whole_digit
 start_digit q p h =
-    simp (ne_eqb (48 + q) 43 (λ (e : 48 + q ≡ 43). omega arith), ne_eqb (48 + q) 45 (λ (e : 48 + q ≡ 45). omega arith), ne_eqb (48 + q) 48 (λ (e : 48 + q ≡ 48). omega arith), digit_of_lem q h, lt-ltb q 10 h)
-    (ap (λ (z : ℕ). Go (st Whole false z 0 false 0)) (omega arith))
+    simp (ne_eqb (48 + q) 43 (λ (e : 48 + q ≡ 43). omega arith), ne_eqb (48 + q) 45 (λ (e : 48 + q ≡ 45). omega arith), ne_eqb (48 + q) 48 (λ (e : 48 + q ≡ 48). omega arith), digit_of_lem q h)
+    (ap (λ (z : ℕ). Some (st Whole false z 0 false 0)) (omega arith))
 
-sign_digit : (q : ℕ) → q < 10 → step (st Sign true 0 0 false 0) (48 + q) ≡ Go (st Whole true q 0 false 0)
+sign_digit : (q : ℕ) → q < 10 → step (st Sign true 0 0 false 0) (48 + q) ≡ Some (st Whole true q 0 false 0)
 unfolding step step_at after_sign whole_digit
-sign_digit q h = simp (digit_of_lem q h, lt-ltb q 10 h) (ap (λ (z : ℕ). Go (st Whole true z 0 false 0)) (omega arith))
+sign_digit q h = simp (digit_of_lem q h) (ap (λ (z : ℕ). Some (st Whole true z 0 false 0)) (omega arith))
 
 -- ---- digits after the point
 
-fraction_digit_lem : (s : Bool) (d n x : ℕ) → x < 10 → d < 10 ^ 18 → step (st Fraction s d n false 0) (48 + x) ≡ Go (st Fraction s (d * 10 + x) (n + 1) false 0)
+fraction_digit_lem : (s : Bool) (d n x : ℕ) → x < 10 → d < 10 ^ 18 → step (st Fraction s d n false 0) (48 + x) ≡ Some (st Fraction s (d * 10 + x) (n + 1) false 0)
 unfolding step step_at in_fraction fraction_digit
-fraction_digit_lem s d n x h l = simp (digit_of_lem x h, lt-ltb x 10 h, lt-ltb d (10 ^ 18) l)
+fraction_digit_lem s d n x h l = simp (digit_of_lem x h, lt-ltb d (10 ^ 18) l)
 
 fraction_digits : (k v : ℕ) (s : Bool) (d n i : ℕ) (t : List ℕ) → suc d * 10 ^ k ≤ 10 ^ 18
     → scan (st Fraction s d n false 0) i (digits_text k v ++ t) ≡ scan (st Fraction s (d * 10 ^ k + v % 10 ^ k) (n + k) false 0) (i + k) t
@@ -99,16 +95,16 @@ fraction_digits (suc k) v s d n i t h =
 
 -- ---- the exponent
 
-exponent_first : (s u : Bool) (d n x : ℕ) → x < 10 → step (st MarkSign s d n u 0) (48 + x) ≡ Go (st Exponent s d n u x)
+exponent_first : (s u : Bool) (d n x : ℕ) → x < 10 → step (st MarkSign s d n u 0) (48 + x) ≡ Some (st Exponent s d n u x)
 unfolding step step_at in_exponent exponent_digit
 exponent_first s u d n x h =
-    simp (digit_of_lem x h, lt-ltb x 10 h, le-ltb 400 (0 * 10 + x) (omega arith)) (ap (λ (z : ℕ). Go (st Exponent s d n u z)) (omega arith))
+    simp (digit_of_lem x h, le-ltb 400 (0 * 10 + x) (omega arith)) (ap (λ (z : ℕ). Some (st Exponent s d n u z)) (omega arith))
 
-exponent_next : (s u : Bool) (d n e x : ℕ) → x < 10 → e * 10 + x ≤ 400 → step (st Exponent s d n u e) (48 + x) ≡ Go (st Exponent s d n u (e * 10 + x))
+exponent_next : (s u : Bool) (d n e x : ℕ) → x < 10 → e * 10 + x ≤ 400 → step (st Exponent s d n u e) (48 + x) ≡ Some (st Exponent s d n u (e * 10 + x))
 unfolding step step_at in_exponent exponent_digit
-exponent_next s u d n e x h l = simp (digit_of_lem x h, lt-ltb x 10 h, le-ltb 400 (e * 10 + x) l)
+exponent_next s u d n e x h l = simp (digit_of_lem x h, le-ltb 400 (e * 10 + x) l)
 
-exponent_digits : (s u : Bool) (d n i e : ℕ) → e ≤ 400 → scan (st MarkSign s d n u 0) i (digits_text 3 e) ≡ Number (number_of (st Exponent s d n u e))
+exponent_digits : (s u : Bool) (d n i e : ℕ) → e ≤ 400 → scan (st MarkSign s d n u 0) i (digits_text 3 e) ≡ Ok (number_of (st Exponent s d n u e))
 unfolding digits_text scan finish_at
 exponent_digits s u d n i e h =
     onto (st MarkSign s d n u 0) (st Exponent s d n u (e / 100 % 10)) (48 + e / 100 % 10) i ((48 + e / 10 % 10) ∷ (48 + e / 1 % 10) ∷ []) (exponent_first s u d n (e / 100 % 10) (omega arith))
@@ -116,7 +112,7 @@ exponent_digits s u d n i e h =
     (exponent_next s u d n (e / 100 % 10) (e / 10 % 10) (omega arith) (omega arith))
     ∙ onto (st Exponent s d n u (e / 100 % 10 * 10 + e / 10 % 10)) (st Exponent s d n u ((e / 100 % 10 * 10 + e / 10 % 10) * 10 + e / 1 % 10)) (48 + e / 1 % 10) (suc (suc i)) []
     (exponent_next s u d n (e / 100 % 10 * 10 + e / 10 % 10) (e / 1 % 10) (omega arith) (rw (all e h) h))
-    ∙ ap (λ (z : ℕ). Number (number_of (st Exponent s d n u z))) (all e h)
+    ∙ ap (λ (z : ℕ). Ok (number_of (st Exponent s d n u z))) (all e h)
   where
     less : (e : ℕ) → e ≤ 400 → e / 10 < 100
     less e h = omega arith
@@ -136,19 +132,19 @@ exponent_digits s u d n i e h =
 
 -- ---- point, mark and sign of the exponent
 
-to_point : (s : Bool) (q : ℕ) → step (st Whole s q 0 false 0) 46 ≡ Go (st Fraction s q 0 false 0)
+to_point : (s : Bool) (q : ℕ) → step (st Whole s q 0 false 0) 46 ≡ Some (st Fraction s q 0 false 0)
 unfolding step step_at in_whole digit_of moved
 to_point s q = refl
 
-to_mark : (s : Bool) (d : ℕ) → step (st Fraction s d 16 false 0) 101 ≡ Go (st Mark s d 16 false 0)
+to_mark : (s : Bool) (d : ℕ) → step (st Fraction s d 16 false 0) 101 ≡ Some (st Mark s d 16 false 0)
 unfolding step step_at in_fraction digit_of mark moved
 to_mark s d = refl
 
-to_minus : (s : Bool) (d : ℕ) → step (st Mark s d 16 false 0) 45 ≡ Go (st MarkSign s d 16 true 0)
+to_minus : (s : Bool) (d : ℕ) → step (st Mark s d 16 false 0) 45 ≡ Some (st MarkSign s d 16 true 0)
 unfolding step step_at after_mark minus_exponent
 to_minus s d = refl
 
-to_plus : (s : Bool) (d : ℕ) → step (st Mark s d 16 false 0) 43 ≡ Go (st MarkSign s d 16 false 0)
+to_plus : (s : Bool) (d : ℕ) → step (st Mark s d 16 false 0) 43 ≡ Some (st MarkSign s d 16 false 0)
 unfolding step step_at after_mark moved
 to_plus s d = refl
 
@@ -159,11 +155,11 @@ below t = t <? 324
 abbrev pub size_of : ℕ → ℕ
 size_of t = cond (t <? 324) (324 - t) (t - 324)
 
-exponent_back : (s : Bool) (d t i : ℕ) → t ≤ 700 → scan (st Fraction s d 16 false 0) i (exponent_text t) ≡ Number (number_of (st Exponent s d 16 (below t) (size_of t)))
+exponent_back : (s : Bool) (d t i : ℕ) → t ≤ 700 → scan (st Fraction s d 16 false 0) i (exponent_text t) ≡ Ok (number_of (st Exponent s d 16 (below t) (size_of t)))
 unfolding exponent_text
 exponent_back s d t i h = go (t <? 324)
   where
-    go : (b : Bool) → scan (st Fraction s d 16 false 0) i (cond b (101 ∷ 45 ∷ digits_text 3 (324 - t)) (101 ∷ 43 ∷ digits_text 3 (t - 324))) ≡ Number (number_of (st Exponent s d 16 b (cond b (324 - t) (t - 324))))
+    go : (b : Bool) → scan (st Fraction s d 16 false 0) i (cond b (101 ∷ 45 ∷ digits_text 3 (324 - t)) (101 ∷ 43 ∷ digits_text 3 (t - 324))) ≡ Ok (number_of (st Exponent s d 16 b (cond b (324 - t) (t - 324))))
     go true =
         onto (st Fraction s d 16 false 0) (st Mark s d 16 false 0) 101 i (45 ∷ digits_text 3 (324 - t)) (to_mark s d)
         ∙ onto (st Mark s d 16 false 0) (st MarkSign s d 16 true 0) 45 (suc i) (digits_text 3 (324 - t)) (to_minus s d)
@@ -176,7 +172,7 @@ exponent_back s d t i h = go (t <? 324)
 -- ---- from the first digit on
 
 rest_back : (s : Bool) (d t i : ℕ) → d < 10 ^ 17 → t ≤ 700
-    → scan (st Whole s (d / 10 ^ 16) 0 false 0) i (46 ∷ digits_text 16 (d % 10 ^ 16) ++ exponent_text t) ≡ Number (number_of (st Exponent s d 16 (below t) (size_of t)))
+    → scan (st Whole s (d / 10 ^ 16) 0 false 0) i (46 ∷ digits_text 16 (d % 10 ^ 16) ++ exponent_text t) ≡ Ok (number_of (st Exponent s d 16 (below t) (size_of t)))
 rest_back s d t i h k =
     onto (st Whole s (d / 10 ^ 16) 0 false 0) (st Fraction s (d / 10 ^ 16) 0 false 0) 46 i (digits_text 16 (d % 10 ^ 16) ++ exponent_text t) (to_point s (d / 10 ^ 16))
     ∙ fraction_digits 16 (d % 10 ^ 16) s (d / 10 ^ 16) 0 (suc i) (exponent_text t) (room d h)
@@ -191,7 +187,7 @@ unfolding digits_text
 first_text q t h = ap (λ (z : ℕ). (48 + z) ∷ t) (ap (λ (z : ℕ). z % 10) (div-one q) ∙ mod-eq_of_lt h)
 
 pub text_back : (s : Bool) (d : Decimal) → 10 ^ 16 ≤ d.digits → d.digits < 10 ^ 17 → d.tens ≤ 700
-    → read_of (sign_text s ++ decimal_text d) ≡ Number (number_of (st Exponent s d.digits 16 (below d.tens) (size_of d.tens)))
+    → read_of (sign_text s ++ decimal_text d) ≡ Ok (number_of (st Exponent s d.digits 16 (below d.tens) (size_of d.tens)))
 unfolding read_of decimal_text nothing
 text_back true d l h k =
     let q : ℕ = d.digits / 10 ^ 16 in

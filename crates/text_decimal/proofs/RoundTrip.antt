@@ -3,8 +3,6 @@ use mathlib.Core.Path.{◌≡◌, refl, sym, ap, ◌∙◌, subst}
 use mathlib.Core.Bool.{Bool, true, false, not, cond}
 use mathlib.Core.Logic.{inl, inr}
 use mathlib.Core.List.{[], ◌∷◌, ◌++◌}
-use lib.ListN.{length, take, replicate}
-use lib.Seq.{take-append_seam}
 use Prim.Native.Nat.{ℕ, suc, ◌+◌, ◌-◌, ◌*◌, ◌/◌, ◌%◌, ◌^◌, ◌≤◌, ◌<◌, compare}
 use native.Mathlib.Nat.{le_trans, le_of_lt, mul_assoc, div-lt_iff_lt-mul, le-div_iff_mul-le, eq-zero-or-pos, eq-or-lt_of_le, mul-div_cancel}
 use native.Mathlib.Omega.{arith}
@@ -21,12 +19,12 @@ use Rattle.rounding.proofs.Choose.{le_or_lt}
 use Rattle.rounding.proofs.Units.{placed, placed_units}
 use Rattle.number.specs.Number.{◌<?◌}
 use Rattle.text_decimal_grammar.specs.declared.Place.TheVariants.{Exponent}
-use Rattle.text_decimal_read.specs.declared.Parsed.TheVariants.{Number}
+use Rattle.std.proofs.Common.{Ok}
 use Rattle.text_decimal_write.specs.declared.Decimal.{Decimal}
 use Rattle.text_decimal_grammar.specs.declared.State.{State}
 use Rattle.text_decimal_grammar.specs.Grammar.{nothing, step, step_at, digit_of, moved, minus, whole_digit, fraction_digit, exponent_digit, mark, after_sign, at_start, in_whole, after_zero, in_fraction, in_exponent, after_mark, in_word}
 use Rattle.text_decimal_read.specs.Text.{number_of, read_of, scan, finish_at}
-use Rattle.text_decimal_write.specs.Decimals.{over, under, tens, decimal_of, units_decimal, digits_text, exponent_text, decimal_text, units_text, sign_text, text_of, written, written_of}
+use Rattle.text_decimal_write.specs.Decimals.{over, under, tens, decimal_of, units_decimal, digits_text, exponent_text, decimal_text, units_text, sign_text, text_of, written_of}
 use Rattle.text_decimal_write.specs.Room.{guess_of}
 use Rattle.text_limbs.proofs.Tens.{ten_pos}
 use Rattle.text_decimal_write.proofs.First.{under_pos, reach_next, tens_are, Guessed, guessed}
@@ -110,16 +108,16 @@ number_fits s = go s.under
     go true = round-fits binary64 s.negative (s.digits * 10 ^ s.up) (10 ^ (s.down + s.exponent))
     go false = round-fits binary64 s.negative (s.digits * 10 ^ (s.up + s.exponent)) (10 ^ s.down)
 
-word_nan : read_of (110 ∷ 97 ∷ 110 ∷ []) ≡ Number nan
+word_nan : read_of (110 ∷ 97 ∷ 110 ∷ []) ≡ Ok nan
 unfolding read_of scan nothing step step_at digit_of moved after_sign at_start in_word finish_at
 word_nan = refl
 
-word_inf : (s : Bool) → read_of (sign_text s ++ 105 ∷ 110 ∷ 102 ∷ []) ≡ Number (inf s)
+word_inf : (s : Bool) → read_of (sign_text s ++ 105 ∷ 110 ∷ 102 ∷ []) ≡ Ok (inf s)
 unfolding read_of scan nothing step step_at digit_of moved minus after_sign at_start in_word finish_at
 word_inf true = refl
 word_inf false = refl
 
-zero_back : (s : Bool) → read_of (sign_text s ++ decimal_text (record { digits = 0; tens = 324 })) ≡ Number (fin s 0 (pos 0))
+zero_back : (s : Bool) → read_of (sign_text s ++ decimal_text (record { digits = 0; tens = 324 })) ≡ Ok (fin s 0 (pos 0))
 unfolding read_of scan nothing step step_at digit_of moved minus whole_digit fraction_digit exponent_digit mark after_sign at_start in_whole after_zero in_fraction in_exponent after_mark finish_at number_of round size units odd digits_text exponent_text decimal_text
 zero_back true = refl
 zero_back false = refl
@@ -131,18 +129,18 @@ zero_fits : (s : Bool) → T (fits binary64 (fin s 0 (pos 0)))
 unfolding fits
 zero_fits s = tt
 
-units_back : (x : Float) (s : Bool) (m g u : ℕ) → T (fits binary64 x) → HasValue x s u (2 ^ 1074) → u ≡ m * 2 ^ g → m < 2 ^ 53 → u < 2 ^ 2098 → read_of (sign_text s ++ units_text u) ≡ Number x
+units_back : (x : Float) (s : Bool) (m g u : ℕ) → T (fits binary64 x) → HasValue x s u (2 ^ 1074) → u ≡ m * 2 ^ g → m < 2 ^ 53 → u < 2 ^ 2098 → read_of (sign_text s ++ units_text u) ≡ Ok x
 unfolding units_text units_decimal
 units_back x s m g u f v e M l = elim (eq-zero-or-pos u) [
   | inl z ↦
       ap (λ (b : Bool). read_of (sign_text s ++ decimal_text (cond b (record { digits = 0; tens = 324 }) (decimal_of u)))) (eq-eqb u 0 z)
       ∙ zero_back s
-      ∙ ap Number (same_value (fin s 0 (pos 0)) x s 0 (zero_fits s) f (zero_value s) (subst (λ (n : ℕ). HasValue x s n (2 ^ 1074)) z v))
+      ∙ ap Ok (same_value (fin s 0 (pos 0)) x s 0 (zero_fits s) f (zero_value s) (subst (λ (n : ℕ). HasValue x s n (2 ^ 1074)) z v))
   | inr p ↦
       let d = seventeen u p l in
       ap (λ (b : Bool). read_of (sign_text s ++ decimal_text (cond b (record { digits = 0; tens = 324 }) (decimal_of u)))) (ne_eqb u 0 (λ (z : u ≡ 0). not_zero u p z))
       ∙ text_back s (decimal_of u) d.least d.most d.few
-      ∙ ap Number
+      ∙ ap Ok
       (same_value (number_of (st Exponent s (decimal_of u).digits 16 (below (decimal_of u).tens) (size_of (decimal_of u).tens))) x s u
       (number_fits (st Exponent s (decimal_of u).digits 16 (below (decimal_of u).tens) (size_of (decimal_of u).tens))) f
       (read_value s u (decimal_of u).digits (decimal_of u).tens p (decimal_near u p l) m g e M l) v)
@@ -152,7 +150,7 @@ units_back x s m g u f v e M l = elim (eq-zero-or-pos u) [
     not_zero u p z = omega arith
 
 -- what is written of a number is read back as that number: its value and its sign, so its bits; of a NaN as a NaN
-pub round_trip : (x : Float) → T (fits binary64 x) → read_of (text_of x) ≡ Number x
+pub round_trip : (x : Float) → T (fits binary64 x) → read_of (text_of x) ≡ Ok x
 unfolding text_of in_units
 round_trip nan f = word_nan
 round_trip (inf true) f = word_inf true
@@ -165,6 +163,6 @@ round_trip (fin s m e) f =
     ∙ units_back (fin s m e) s m p.place (m * 2 ^ p.place) f (refl, v) refl p.digits p.under
 
 -- the same of the bytes that `write` hands over
-pub written_back : (x : Float) → T (fits binary64 x) → read_of (take (written_of x).length (written_of x).bytes) ≡ Number x
-unfolding written_of written
-written_back x f = ap read_of (take-append_seam (text_of x) (replicate (32 - length (text_of x)) 0)) ∙ round_trip x f
+pub written_back : (x : Float) → T (fits binary64 x) → read_of (written_of x).items ≡ Ok x
+unfolding written_of
+written_back x f = round_trip x f

@@ -1,7 +1,7 @@
 // The grammar of a number, a byte at a time: what a byte adds to what was read, or that it is at fault.
 #![tactic(auto)]
 
-ghost use Rattle.std.specs.Prelude.{◌≡◌, ◌+◌, ◌*◌, ◌≤◌, ◌<◌, ◌^◌};
+ghost use Rattle.std.specs.Prelude.{◌≡◌, ◌+◌, ◌*◌, ◌≤◌, ◌<◌, ◌^◌, IfSome};
 ghost use Rattle.text_decimal_grammar.specs.Grammar.{digit_of, hex_of, nothing, moved, whole_digit, fraction_digit, exponent_digit, mark, after_sign, at_start, in_whole, after_zero, after_point, in_fraction, in_exponent, after_mark, in_word, in_hex, step};
 ghost use Rattle.text_decimal_grammar.specs.Room.{Room};
 
@@ -38,13 +38,8 @@ pub struct State {
     pub exponent: usize,
 }
 
-#[derive(Clone, Copy)]
-pub enum Next {
-    Go(State),
-    Fault,
-}
-
 // Nothing is read yet.
+#[tactic(auto, unfolding(crate::specs::Grammar::nothing))]
 pub fn start() -> State
     ensures { result ≡ nothing }
 {
@@ -59,279 +54,252 @@ pub fn start() -> State
     }
 }
 
-// What a byte stands for as a decimal digit; 10 where it is none.
-fn digit_of(c: u8) -> u64
+// What a byte stands for as a decimal digit.
+#[tactic(auto, unfolding(crate::specs::Grammar::digit_of))]
+fn digit_of(c: u8) -> Option<u64>
     ensures { result ≡ digit_of c }
 {
-    if c < b'0' {
-        return 10;
-    }
-    if c > b'9' {
-        return 10;
-    }
-    (c - b'0') as u64
+    char::from(c).to_digit(10).map(u64::from)
 }
 
-// What a byte stands for as a hexadecimal digit, in either case; 16 where it is none.
-fn hex_of(c: u8) -> u64
-    ensures { result ≡ hex_of c }
+// What a byte stands for as a hexadecimal digit, in either case. Beside digit_of, and not one function over the radix: each has its definition.
+#[tactic(auto, unfolding(crate::specs::Grammar::hex_of))]
+fn hex_of(c: u8) -> Option<u64>
+    ensures value { result ≡ hex_of c }
+    ensures below { IfSome result (λ d. d < 16) }
 {
-    let d = digit_of(c);
-    if d < 10 {
-        return d;
-    }
-    if c < b'A' {
-        return 16;
-    }
-    if c <= b'F' {
-        return (c - 55) as u64;
-    }
-    if c < b'a' {
-        return 16;
-    }
-    if c <= b'f' {
-        return (c - 87) as u64;
-    }
-    16
+    char::from(c).to_digit(16).map(u64::from)
 }
 
-fn moved(s: State, place: Place) -> State
-    ensures { result ≡ moved s place }
-{
-    State { place, ..s }
-}
+// Room is asked of a state, and no invariant of it: each byte uses some of it up.
+impl State {
+    #[tactic(auto, unfolding(crate::specs::Grammar::moved))]
+    fn moved(self, place: Place) -> State
+        ensures { result ≡ moved self place }
+    {
+        State { place, ..self }
+    }
 
-// A digit before the point. Once there are 19, a zero only multiplies by ten.
-fn take_whole(s: State, d: u64) -> Next
-    requires { (s.up + s.down < 2 ^ 63) × (d < 10) }
-    ensures { result ≡ whole_digit s d }
-{
-    if s.digits < 1_000_000_000_000_000_000 {
-        return Next::Go(State {
-            place: Place::Whole,
-            digits: s.digits * 10 + d,
-            ..s
-        });
-    }
-    if d == 0 {
-        return Next::Go(State {
-            place: Place::Whole,
-            up: s.up + 1,
-            ..s
-        });
-    }
-    Next::Fault
-}
-
-// A digit after the point. Once there are 19, a zero says nothing more.
-fn take_fraction(s: State, d: u64) -> Next
-    requires { (s.up + s.down < 2 ^ 63) × (d < 10) }
-    ensures { result ≡ fraction_digit s d }
-{
-    if s.digits < 1_000_000_000_000_000_000 {
-        return Next::Go(State {
-            place: Place::Fraction,
-            digits: s.digits * 10 + d,
-            down: s.down + 1,
-            ..s
-        });
-    }
-    if d == 0 {
-        return Next::Go(moved(s, Place::Fraction));
-    }
-    Next::Fault
-}
-
-// A digit of the exponent.
-fn take_exponent(s: State, d: u64) -> Next
-    requires { (s.exponent ≤ 400) × (d < 10) }
-    ensures { result ≡ exponent_digit s d }
-{
-    let e = s.exponent * 10 + d as usize;
-    if e > 400 {
-        return Next::Fault;
-    }
-    Next::Go(State {
-        place: Place::Exponent,
-        exponent: e,
-        ..s
-    })
-}
-
-fn after_sign(s: State, c: u8) -> Next
-    requires { s.up + s.down < 2 ^ 63 }
-    ensures { result ≡ after_sign s c }
-{
-    let d = digit_of(c);
-    if d < 10 {
-        return take_whole(s, d);
-    }
-    if c == b'.' {
-        return Next::Go(moved(s, Place::Point));
-    }
-    if c == b'i' {
-        return Next::Go(moved(s, Place::I));
-    }
-    if c == b'n' {
-        return Next::Go(moved(s, Place::N));
-    }
-    Next::Fault
-}
-
-fn at_start(s: State, c: u8) -> Next
-    requires { s.up + s.down < 2 ^ 63 }
-    ensures { result ≡ at_start s c }
-{
-    if c == b'+' {
-        return Next::Go(moved(s, Place::Sign));
-    }
-    if c == b'-' {
-        return Next::Go(State {
-            place: Place::Sign,
-            negative: true,
-            ..s
-        });
-    }
-    if c == b'0' {
-        return Next::Go(moved(s, Place::Zero));
-    }
-    after_sign(s, c)
-}
-
-fn in_whole(s: State, c: u8) -> Next
-    requires { s.up + s.down < 2 ^ 63 }
-    ensures { result ≡ in_whole s c }
-{
-    let d = digit_of(c);
-    if d < 10 {
-        return take_whole(s, d);
-    }
-    if c == b'.' {
-        return Next::Go(moved(s, Place::Fraction));
-    }
-    to_mark(s, c)
-}
-
-fn to_mark(s: State, c: u8) -> Next
-    ensures { result ≡ mark s c }
-{
-    if c == b'e' {
-        return Next::Go(moved(s, Place::Mark));
-    }
-    if c == b'E' {
-        return Next::Go(moved(s, Place::Mark));
-    }
-    Next::Fault
-}
-
-fn after_zero(s: State, c: u8) -> Next
-    requires { s.up + s.down < 2 ^ 63 }
-    ensures { result ≡ after_zero s c }
-{
-    if c == b'x' {
-        return Next::Go(moved(s, Place::Hex(0)));
-    }
-    in_whole(s, c)
-}
-
-fn after_point(s: State, c: u8) -> Next
-    requires { s.up + s.down < 2 ^ 63 }
-    ensures { result ≡ after_point s c }
-{
-    let d = digit_of(c);
-    if d < 10 {
-        return take_fraction(s, d);
-    }
-    Next::Fault
-}
-
-fn in_fraction(s: State, c: u8) -> Next
-    requires { s.up + s.down < 2 ^ 63 }
-    ensures { result ≡ in_fraction s c }
-{
-    let d = digit_of(c);
-    if d < 10 {
-        return take_fraction(s, d);
-    }
-    to_mark(s, c)
-}
-
-fn in_exponent(s: State, c: u8) -> Next
-    requires { s.exponent ≤ 400 }
-    ensures { result ≡ in_exponent s c }
-{
-    let d = digit_of(c);
-    if d < 10 {
-        return take_exponent(s, d);
-    }
-    Next::Fault
-}
-
-fn after_mark(s: State, c: u8) -> Next
-    requires { s.exponent ≤ 400 }
-    ensures { result ≡ after_mark s c }
-{
-    if c == b'+' {
-        return Next::Go(moved(s, Place::MarkSign));
-    }
-    if c == b'-' {
-        return Next::Go(State {
-            place: Place::MarkSign,
-            under: true,
-            ..s
-        });
-    }
-    in_exponent(s, c)
-}
-
-fn in_word(s: State, c: u8, wanted: u8, place: Place) -> Next
-    ensures { result ≡ in_word s c wanted place }
-{
-    if c == wanted {
-        return Next::Go(moved(s, place));
-    }
-    Next::Fault
-}
-
-fn in_hex(s: State, c: u8, n: usize) -> Next
-    requires { s.digits < 2 ^ (4 * n) }
-    ensures { result ≡ in_hex s c n }
-{
-    let d = hex_of(c);
-    if n < 16 {
-        if d < 16 {
-            return Next::Go(State {
-                place: Place::Hex(n + 1),
-                digits: s.digits * 16 + d,
-                ..s
+    // A digit before the point. Once there are 19, a zero only multiplies by ten.
+    #[tactic(auto, unfolding(crate::specs::Grammar::whole_digit))]
+    fn take_whole(self, d: u64) -> Option<State>
+        requires room { Room self }
+        requires digit { d < 10 }
+        ensures { result ≡ whole_digit self d }
+    {
+        if self.digits < 1_000_000_000_000_000_000 {
+            return Some(State {
+                place: Place::Whole,
+                digits: self.digits * 10 + d,
+                ..self
             });
         }
+        if d == 0 {
+            return Some(State {
+                place: Place::Whole,
+                up: self.up + 1,
+                ..self
+            });
+        }
+        None
     }
-    Next::Fault
+
+    // A digit after the point. Once there are 19, a zero says nothing more.
+    #[tactic(auto, unfolding(crate::specs::Grammar::fraction_digit))]
+    fn take_fraction(self, d: u64) -> Option<State>
+        requires room { Room self }
+        requires digit { d < 10 }
+        ensures { result ≡ fraction_digit self d }
+    {
+        if self.digits < 1_000_000_000_000_000_000 {
+            return Some(State {
+                place: Place::Fraction,
+                digits: self.digits * 10 + d,
+                down: self.down + 1,
+                ..self
+            });
+        }
+        if d == 0 {
+            return Some(self.moved(Place::Fraction));
+        }
+        None
+    }
+
+    // A digit of the exponent.
+    #[tactic(auto, unfolding(crate::specs::Grammar::exponent_digit))]
+    fn take_exponent(self, d: u64) -> Option<State>
+        requires room { Room self }
+        requires digit { d < 10 }
+        ensures { result ≡ exponent_digit self d }
+    {
+        let e = self.exponent * 10 + d as usize;
+        if e > 400 {
+            return None;
+        }
+        Some(State {
+            place: Place::Exponent,
+            exponent: e,
+            ..self
+        })
+    }
+
+    #[tactic(auto, unfolding(crate::specs::Grammar::after_sign))]
+    fn after_sign(self, c: u8) -> Option<State>
+        requires { Room self }
+        ensures { result ≡ after_sign self c }
+    {
+        match digit_of(c) {
+            Some(d) => self.take_whole(d),
+            None => match c {
+                b'.' => Some(self.moved(Place::Point)),
+                b'i' => Some(self.moved(Place::I)),
+                b'n' => Some(self.moved(Place::N)),
+                _ => None,
+            },
+        }
+    }
+
+    #[tactic(auto, unfolding(crate::specs::Grammar::at_start, crate::specs::Grammar::minus))]
+    fn at_start(self, c: u8) -> Option<State>
+        requires { Room self }
+        ensures { result ≡ at_start self c }
+    {
+        match c {
+            b'+' => Some(self.moved(Place::Sign)),
+            b'-' => Some(State {
+                place: Place::Sign,
+                negative: true,
+                ..self
+            }),
+            b'0' => Some(self.moved(Place::Zero)),
+            _ => self.after_sign(c),
+        }
+    }
+
+    #[tactic(auto, unfolding(crate::specs::Grammar::in_whole))]
+    fn in_whole(self, c: u8) -> Option<State>
+        requires { Room self }
+        ensures { result ≡ in_whole self c }
+    {
+        match digit_of(c) {
+            Some(d) => self.take_whole(d),
+            None if c == b'.' => Some(self.moved(Place::Fraction)),
+            None => self.to_mark(c),
+        }
+    }
+
+    #[tactic(auto, unfolding(crate::specs::Grammar::mark))]
+    fn to_mark(self, c: u8) -> Option<State>
+        ensures { result ≡ mark self c }
+    {
+        match c {
+            b'e' | b'E' => Some(self.moved(Place::Mark)),
+            _ => None,
+        }
+    }
+
+    #[tactic(auto, unfolding(crate::specs::Grammar::after_zero))]
+    fn after_zero(self, c: u8) -> Option<State>
+        requires { Room self }
+        ensures { result ≡ after_zero self c }
+    {
+        match c {
+            b'x' => Some(self.moved(Place::Hex(0))),
+            _ => self.in_whole(c),
+        }
+    }
+
+    #[tactic(auto, unfolding(crate::specs::Grammar::after_point))]
+    fn after_point(self, c: u8) -> Option<State>
+        requires { Room self }
+        ensures { result ≡ after_point self c }
+    {
+        self.take_fraction(digit_of(c)?)
+    }
+
+    #[tactic(auto, unfolding(crate::specs::Grammar::in_fraction))]
+    fn in_fraction(self, c: u8) -> Option<State>
+        requires { Room self }
+        ensures { result ≡ in_fraction self c }
+    {
+        match digit_of(c) {
+            Some(d) => self.take_fraction(d),
+            None => self.to_mark(c),
+        }
+    }
+
+    #[tactic(auto, unfolding(crate::specs::Grammar::in_exponent))]
+    fn in_exponent(self, c: u8) -> Option<State>
+        requires { Room self }
+        ensures { result ≡ in_exponent self c }
+    {
+        self.take_exponent(digit_of(c)?)
+    }
+
+    #[tactic(auto, unfolding(crate::specs::Grammar::after_mark, crate::specs::Grammar::minus_exponent))]
+    fn after_mark(self, c: u8) -> Option<State>
+        requires { Room self }
+        ensures { result ≡ after_mark self c }
+    {
+        match c {
+            b'+' => Some(self.moved(Place::MarkSign)),
+            b'-' => Some(State {
+                place: Place::MarkSign,
+                under: true,
+                ..self
+            }),
+            _ => self.in_exponent(c),
+        }
+    }
+
+    #[tactic(auto, unfolding(crate::specs::Grammar::in_word))]
+    fn in_word(self, c: u8, wanted: u8, place: Place) -> Option<State>
+        ensures { result ≡ in_word self c wanted place }
+    {
+        if c == wanted {
+            Some(self.moved(place))
+        } else {
+            None
+        }
+    }
+
+    #[tactic(auto, unfolding(crate::specs::Grammar::in_hex, crate::specs::Grammar::hex_digit))]
+    fn in_hex(self, c: u8, n: usize) -> Option<State>
+        requires { self.digits < 2 ^ (4 * n) }
+        ensures { result ≡ in_hex self c n }
+    {
+        if n >= 16 {
+            return None;
+        }
+        let d = hex_of(c)?;
+        Some(State {
+            place: Place::Hex(n + 1),
+            digits: self.digits * 16 + d,
+            ..self
+        })
+    }
 }
 
 // One byte more.
-pub fn step(s: State, c: u8) -> Next
+#[tactic(auto, unfolding(crate::specs::Grammar::step, crate::specs::Grammar::step_at))]
+pub fn step(s: State, c: u8) -> Option<State>
     requires { Room s }
     ensures { result ≡ step s c }
 {
-    let place = s.place;
-    match place {
-        Place::Start => at_start(s, c),
-        Place::Sign => after_sign(s, c),
-        Place::Zero => after_zero(s, c),
-        Place::Whole => in_whole(s, c),
-        Place::Point => after_point(s, c),
-        Place::Fraction => in_fraction(s, c),
-        Place::Mark => after_mark(s, c),
-        Place::MarkSign => in_exponent(s, c),
-        Place::Exponent => in_exponent(s, c),
-        Place::I => in_word(s, c, b'n', Place::In),
-        Place::In => in_word(s, c, b'f', Place::Inf),
-        Place::N => in_word(s, c, b'a', Place::Na),
-        Place::Na => in_word(s, c, b'n', Place::Nan),
-        Place::Hex(n) => in_hex(s, c, n),
-        Place::Inf => Next::Fault,
-        Place::Nan => Next::Fault,
+    match s.place {
+        Place::Start => s.at_start(c),
+        Place::Sign => s.after_sign(c),
+        Place::Zero => s.after_zero(c),
+        Place::Whole => s.in_whole(c),
+        Place::Point => s.after_point(c),
+        Place::Fraction => s.in_fraction(c),
+        Place::Mark => s.after_mark(c),
+        Place::MarkSign | Place::Exponent => s.in_exponent(c),
+        Place::I => s.in_word(c, b'n', Place::In),
+        Place::In => s.in_word(c, b'f', Place::Inf),
+        Place::N => s.in_word(c, b'a', Place::Na),
+        Place::Na => s.in_word(c, b'n', Place::Nan),
+        Place::Hex(n) => s.in_hex(c, n),
+        Place::Inf | Place::Nan => None,
     }
 }

@@ -143,6 +143,10 @@ unfolding of_bits
 infinity true = refl
 infinity false = refl
 
+pub not_a_number : float 0x7ff8_0000_0000_0000 ≡ nan
+unfolding of_bits
+not_a_number = refl
+
 pub nothing_left : (s : Bool) → float (sign_part s + 0) ≡ units binary64 s 0 0
 unfolding of_bits units
 nothing_left true = refl

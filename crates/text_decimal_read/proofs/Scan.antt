@@ -4,19 +4,23 @@ use mathlib.Core.Bool.{Bool, true, false, not, cond}
 use mathlib.Core.List.{List}
 use Prim.Native.Nat.{ℕ, suc, ◌+◌, ◌*◌, ◌^◌, ◌≤◌, ◌<◌}
 use native.Mathlib.Omega.{arith}
-use lib.Dec.{T, ltb, eqb, ltb→lt, nltb→le}
+use lib.Dec.{T, ltb, eqb, nltb→le}
 use lib.Pow.{pow-add}
 use lib.ListN.{length, get_or, drop, drop_of_length-le}
 use lib.Seq.{drop-cons}
 use Rattle.text_decimal_grammar.specs.declared.Place.{Place}
 use Rattle.text_decimal_grammar.specs.declared.Place.TheVariants.{Start, Sign, Zero, Whole, Point, Fraction, Mark, MarkSign, Exponent, I, In, Inf, N, Na, Nan, Hex}
 use Rattle.text_decimal_grammar.specs.declared.State.{State}
-use Rattle.text_decimal_grammar.specs.declared.Next.{Next}
-use Rattle.text_decimal_grammar.specs.declared.Next.TheVariants.{Go, Fault}
-use Rattle.text_decimal_read.specs.declared.Parsed.TheVariants.{Wrong}
-use Rattle.text_decimal_grammar.specs.Grammar.{digit_of, hex_of, nothing, moved, minus, minus_exponent, whole_digit, fraction_digit, exponent_digit, hex_digit, mark, after_sign, at_start, in_whole, after_zero, after_point, in_fraction, in_exponent, after_mark, in_word, in_hex, step_at, step}
+use Rattle.std.proofs.Common.{Option, Some, None, Err}
+use Rattle.text_decimal_grammar.specs.Grammar.{by_digit, digit_of, hex_of, nothing, moved, minus, minus_exponent, whole_digit, fraction_digit, exponent_digit, hex_digit, mark, after_sign, at_start, in_whole, after_zero, after_point, in_fraction, in_exponent, after_mark, in_word, in_hex, step_at, step}
 use Rattle.text_decimal_read.specs.Text.{finish_at, onward, scan, read_of}
 use Rattle.text_decimal_grammar.specs.Room.{Held, Room}
+
+-- ---- digits
+
+hex_below : (c d : ℕ) → hex_of c ≡ Some d → d < 16
+unfolding hex_of digit_of
+hex_below c d e = grind arith
 
 -- ---- a byte more counts one at most
 
@@ -26,13 +30,17 @@ pub record Counted (s : State) (n : ℕ) : Type 0 where
   pub small : s.exponent ≤ 400
   pub held : Held s.place s.digits
 
-abbrev Keeps : Next → ℕ → Type 0
-Keeps (Go s) n = Counted s n
-Keeps Fault n = Prim.Unit
+abbrev Keeps : Option State → ℕ → Type 0
+Keeps (Some s) n = Counted s n
+Keeps None n = Prim.Unit
 
-choose : (b : Bool) (x y : Next) (n : ℕ) → (T b → Keeps x n) → (T (not b) → Keeps y n) → Keeps (cond b x y) n
+choose : (b : Bool) (x y : Option State) (n : ℕ) → (T b → Keeps x n) → (T (not b) → Keeps y n) → Keeps (cond b x y) n
 choose true x y n f g = f tt
 choose false x y n f g = g tt
+
+digit : (o : Option ℕ) (f : ℕ → Option State) (x : Option State) (n : ℕ) → ((d : ℕ) → o ≡ Some d → Keeps (f d) n) → Keeps x n → Keeps (by_digit o f x) n
+digit (Some d) f x n g h = g d refl
+digit None f x n g h = h
 
 more : (a b n : ℕ) → a + b ≤ n → a + b ≤ suc n
 more a b n h = omega arith
@@ -73,8 +81,8 @@ module _ (s : State) (n : ℕ) (h : Counted s n) where
   keeps_sign : (c : ℕ) → Keeps (after_sign s c) (suc n)
   unfolding after_sign
   keeps_sign c =
-      choose (ltb (digit_of c) 10) _ _ (suc n) (λ t. keeps_whole (digit_of c))
-      (λ t. choose (eqb c 46) _ _ (suc n) (λ u. kept Point tt) (λ u. choose (eqb c 105) _ _ (suc n) (λ v. kept I tt) (λ v. choose (eqb c 110) _ _ (suc n) (λ w. kept N tt) (λ w. tt))))
+      digit (digit_of c) _ _ (suc n) (λ d e. keeps_whole d)
+      (choose (eqb c 46) _ _ (suc n) (λ u. kept Point tt) (λ u. choose (eqb c 105) _ _ (suc n) (λ v. kept I tt) (λ v. choose (eqb c 110) _ _ (suc n) (λ w. kept N tt) (λ w. tt))))
 
   keeps_start : (c : ℕ) → s.digits < 1 → Keeps (at_start s c) (suc n)
   unfolding at_start minus
@@ -87,7 +95,7 @@ module _ (s : State) (n : ℕ) (h : Counted s n) where
   keeps_in_whole : (c : ℕ) → Keeps (in_whole s c) (suc n)
   unfolding in_whole
   keeps_in_whole c =
-      choose (ltb (digit_of c) 10) _ _ (suc n) (λ t. keeps_whole (digit_of c)) (λ t. choose (eqb c 46) _ _ (suc n) (λ u. kept Fraction tt) (λ u. keeps_mark c))
+      digit (digit_of c) _ _ (suc n) (λ d e. keeps_whole d) (choose (eqb c 46) _ _ (suc n) (λ u. kept Fraction tt) (λ u. keeps_mark c))
 
   keeps_zero : (c : ℕ) → s.digits < 1 → Keeps (after_zero s c) (suc n)
   unfolding after_zero
@@ -95,15 +103,15 @@ module _ (s : State) (n : ℕ) (h : Counted s n) where
 
   keeps_point : (c : ℕ) → Keeps (after_point s c) (suc n)
   unfolding after_point
-  keeps_point c = choose (ltb (digit_of c) 10) _ _ (suc n) (λ t. keeps_fraction (digit_of c)) (λ t. tt)
+  keeps_point c = digit (digit_of c) _ _ (suc n) (λ d e. keeps_fraction d) tt
 
   keeps_in_fraction : (c : ℕ) → Keeps (in_fraction s c) (suc n)
   unfolding in_fraction
-  keeps_in_fraction c = choose (ltb (digit_of c) 10) _ _ (suc n) (λ t. keeps_fraction (digit_of c)) (λ t. keeps_mark c)
+  keeps_in_fraction c = digit (digit_of c) _ _ (suc n) (λ d e. keeps_fraction d) (keeps_mark c)
 
   keeps_in_exponent : (c : ℕ) → Keeps (in_exponent s c) (suc n)
   unfolding in_exponent
-  keeps_in_exponent c = choose (ltb (digit_of c) 10) _ _ (suc n) (λ t. keeps_exponent (digit_of c)) (λ t. tt)
+  keeps_in_exponent c = digit (digit_of c) _ _ (suc n) (λ d e. keeps_exponent d) tt
 
   keeps_after_mark : (c : ℕ) → Keeps (after_mark s c) (suc n)
   unfolding after_mark minus_exponent
@@ -122,14 +130,14 @@ module _ (s : State) (n : ℕ) (h : Counted s n) where
   keeps_hex c k d =
       choose (ltb k 16) _ _ (suc n)
       (λ t.
-      choose (ltb (hex_of c) 16) _ _ (suc n)
-      (λ u.
+      digit (hex_of c) _ _ (suc n)
+      (λ x e.
       record {
         counts = more s.up s.down n h.counts;
         small = h.small;
-        held = (subst (λ (z : ℕ). s.digits * 16 + hex_of c < z) (sym (ap (λ (z : ℕ). 2 ^ z) (four k) ∙ pow-add 2 (4 * k) 4)) (next s.digits (hex_of c) (2 ^ (4 * k)) d (ltb→lt (hex_of c) 16 u)));
+        held = (subst (λ (z : ℕ). s.digits * 16 + x < z) (sym (ap (λ (z : ℕ). 2 ^ z) (four k) ∙ pow-add 2 (4 * k) 4)) (next s.digits x (2 ^ (4 * k)) d (hex_below c x e)));
       })
-      (λ u. tt))
+      tt)
       (λ t. tt)
     where
       four : (k : ℕ) → 4 * (k + 1) ≡ 4 * k + 4
@@ -183,16 +191,16 @@ one_more : (text : List ℕ) (s : State) (n : ℕ) → n < length text → scan 
 unfolding scan
 one_more text s n h = ap (λ (t : List ℕ). scan s n t) (drop-cons text n 0 h)
 
-pub next : (text : List ℕ) (s s' : State) (n : ℕ) → Scanned text s n → n < length text → step s (get_or text n 0) ≡ Go s' → Scanned text s' (suc n)
+pub next : (text : List ℕ) (s s' : State) (n : ℕ) → Scanned text s n → n < length text → step s (get_or text n 0) ≡ Some s' → Scanned text s' (suc n)
 next text s s' n h l e =
     record {
       most = l;
-      counted = subst (λ (x : Next). Keeps x (suc n)) e (keeps s n h.counted (get_or text n 0));
-      is = (sym (one_more text s n l ∙ ap (λ (x : Next). onward x n (λ next. scan next (suc n) (drop (suc n) text))) e) ∙ h.is);
+      counted = subst (λ (x : Option State). Keeps x (suc n)) e (keeps s n h.counted (get_or text n 0));
+      is = (sym (one_more text s n l ∙ ap (λ (x : Option State). onward x n (λ next. scan next (suc n) (drop (suc n) text))) e) ∙ h.is);
     }
 
-pub fault : (text : List ℕ) (s : State) (n : ℕ) → Scanned text s n → n < length text → step s (get_or text n 0) ≡ Fault → Wrong n ≡ read_of text
-fault text s n h l e = sym (one_more text s n l ∙ ap (λ (x : Next). onward x n (λ next. scan next (suc n) (drop (suc n) text))) e) ∙ h.is
+pub fault : (text : List ℕ) (s : State) (n : ℕ) → Scanned text s n → n < length text → step s (get_or text n 0) ≡ None → Err n ≡ read_of text
+fault text s n h l e = sym (one_more text s n l ∙ ap (λ (x : Option State). onward x n (λ next. scan next (suc n) (drop (suc n) text))) e) ∙ h.is
 
 pub last : (text : List ℕ) (s : State) (n : ℕ) → Scanned text s n → length text ≤ n → finish_at s.place s n ≡ read_of text
 unfolding scan

@@ -6,27 +6,14 @@ ghost use Rattle.text_decimal_read.specs.Text.{read_of};
 
 mod reading;
 
-use text_decimal_grammar::Next;
-
-#[derive(Clone, Copy)]
-pub enum Parsed {
-    Number(f64),
-    // the place of the first byte at fault; the text's length where it ends too early
-    Wrong(usize),
-}
-
-// The number that the whole text is.
-pub fn read(text: &[u8]) -> Parsed
+// The number that the whole text is, or the place of the first byte at fault: the text's length where it ends too early.
+#[tactic(auto, using(crate::proofs::Scan::fault, crate::proofs::Scan::last))]
+pub fn read(text: &[u8]) -> Result<f64, usize>
     ensures { result ≡ read_of text.now }
 {
     let mut s = text_decimal_grammar::start();
-    let mut i = 0;
-    while i < text.len() {
-        let Next::Go(next) = text_decimal_grammar::step(s, text[i]) else {
-            return Parsed::Wrong(i);
-        };
-        s = next;
-        i += 1;
+    for (i, c) in text.iter().enumerate() {
+        s = text_decimal_grammar::step(s, *c).ok_or(i)?;
     }
-    reading::finish(s, i)
+    reading::finish(s, text.len())
 }

@@ -4,13 +4,13 @@ ghost use Rattle.std.specs.Float.{binary64};
 ghost use Rattle.std.specs.Float.Ieee.{round, units};
 ghost use Rattle.number.specs.Number.{float};
 ghost use Rattle.text_limbs.specs.Remains.{CutBy};
-ghost use Rattle.text_limbs.specs.Limbs.{value, Limbs};
+ghost use Rattle.text_limbs.specs.Limbs.{value};
 ghost use Rattle.text_decimal_grammar.specs.Room.{Room};
 ghost use Rattle.text_decimal_read.specs.Text.{number_of, finish_at};
 ghost use Rattle.text_decimal_read.specs.Normal.{Normal, sign_part};
 
-use crate::Parsed;
 use text_decimal_grammar::{Place, State};
+use text_limbs::Whole;
 
 // The number of the magnitude's pattern b, with its sign
 fn signed(negative: bool, b: u64) -> f64
@@ -24,6 +24,7 @@ fn signed(negative: bool, b: u64) -> f64
 }
 
 // q * 2 ^ k units
+#[tactic(auto, using(crate::proofs::Patterns::units_finite, crate::proofs::Patterns::units_infinite, crate::proofs::Patterns::infinity))]
 fn float_at(negative: bool, q: u64, k: usize) -> f64
     requires { Normal q k × (k < 4000) }
     ensures { result ≡ units binary64 negative q k }
@@ -35,27 +36,20 @@ fn float_at(negative: bool, q: u64, k: usize) -> f64
     signed(negative, 0x7ff0_0000_0000_0000)
 }
 
-// How many digits are not kept of a number of z digits, 14 of which stand below the smallest unit
-fn dropped(z: usize) -> usize
-    ensures { result ≡ z - 67 }
-{
-    if z < 67 {
-        return 0;
-    }
-    z - 67
-}
-
 // The limbs hold a fraction times 2 ^ 1088, cut to a whole number; `rest` says whether something was cut off.
-fn rounded(negative: bool, l: &[u64; 72], rest: bool) -> f64
-    requires { Limbs l.now × (value l.now < 2 ^ 2200) }
-    ensures { (num den : ℕ) → 0 < den → CutBy (num * 2 ^ 1088) den (value l.now) rest → result ≡ round binary64 negative num den }
+#[tactic(auto, using(crate::proofs::Nearby::normal, crate::proofs::Nearby::cut_fits, crate::proofs::Nearby::rounded_is))]
+fn rounded(negative: bool, l: &Whole, rest: bool) -> f64
+    requires { value l.now.limbs < 2 ^ 2200 }
+    ensures { (num den : ℕ) → 0 < den → CutBy (num * 2 ^ 1088) den (value l.now.limbs) rest → result ≡ round binary64 negative num den }
 {
-    let k = dropped(text_limbs::digits(l));
+    // Of more than 67 digits the last are dropped: 53 are kept, and 14 stand below the smallest unit.
+    let k = text_limbs::digits(l).saturating_sub(67);
     let c = text_limbs::cut_off(l, k + 13);
     let q = text_limbs::halved(c.whole, rest | c.rest);
     float_at(negative, q, k)
 }
 
+#[tactic(auto, using(crate::proofs::Scaled::product_fits, crate::proofs::Scaled::product_cut))]
 fn product(negative: bool, digits: u64, e: usize) -> f64
     requires { e < 310 }
     ensures { result ≡ round binary64 negative (digits * 10 ^ e) 1 }
@@ -65,6 +59,7 @@ fn product(negative: bool, digits: u64, e: usize) -> f64
     rounded(negative, &l, false)
 }
 
+#[tactic(auto, using(crate::proofs::Scaled::quotient_fits))]
 fn quotient(negative: bool, digits: u64, e: usize) -> f64
     ensures { result ≡ round binary64 negative digits (10 ^ e) }
 {
@@ -74,6 +69,7 @@ fn quotient(negative: bool, digits: u64, e: usize) -> f64
 }
 
 // digits * 10 ^ up / 10 ^ down. From 10 ^ 310 on that is an infinity; and 2 ^ 64 / 10 ^ 344 is below half of the smallest number.
+#[tactic(auto, using(crate::proofs::Patterns::infinity, crate::proofs::Patterns::nothing_left, crate::proofs::Scaled::none, crate::proofs::Scaled::up_only, crate::proofs::Scaled::down_only, crate::proofs::Scaled::large, crate::proofs::Scaled::small))]
 fn fraction(negative: bool, digits: u64, up: usize, down: usize) -> f64
     ensures { result ≡ round binary64 negative (digits * 10 ^ up) (10 ^ down) }
 {
@@ -94,6 +90,7 @@ fn fraction(negative: bool, digits: u64, up: usize, down: usize) -> f64
     signed(negative, 0)
 }
 
+#[tactic(auto, unfolding(crate::specs::Text::number_of))]
 fn number_of(s: State) -> f64
     requires { Room s }
     ensures { result ≡ number_of s }
@@ -105,32 +102,25 @@ fn number_of(s: State) -> f64
 }
 
 // The number at the end of a text of n bytes, or that it ends too early.
-pub fn finish(s: State, n: usize) -> Parsed
+#[tactic(auto, using(crate::proofs::Patterns::infinity, crate::proofs::Patterns::not_a_number), unfolding(crate::specs::Text::finish_at))]
+pub fn finish(s: State, n: usize) -> Result<f64, usize>
     requires { Room s }
     ensures { result ≡ finish_at s.place s n }
 {
-    let place = s.place;
-    match place {
-        Place::Zero => Parsed::Number(number_of(s)),
-        Place::Whole => Parsed::Number(number_of(s)),
-        Place::Fraction => Parsed::Number(number_of(s)),
-        Place::Exponent => Parsed::Number(number_of(s)),
-        Place::Inf => Parsed::Number(signed(s.negative, 0x7ff0_0000_0000_0000)),
-        Place::Nan => Parsed::Number(0.0 / 0.0),
-        Place::Hex(k) => {
-            if k == 16 {
-                return Parsed::Number(number::of_pattern(s.digits));
-            }
-            Parsed::Wrong(n)
-        }
-        Place::Start => Parsed::Wrong(n),
-        Place::Sign => Parsed::Wrong(n),
-        Place::Point => Parsed::Wrong(n),
-        Place::Mark => Parsed::Wrong(n),
-        Place::MarkSign => Parsed::Wrong(n),
-        Place::I => Parsed::Wrong(n),
-        Place::In => Parsed::Wrong(n),
-        Place::N => Parsed::Wrong(n),
-        Place::Na => Parsed::Wrong(n),
+    match s.place {
+        Place::Zero | Place::Whole | Place::Fraction | Place::Exponent => Ok(number_of(s)),
+        Place::Inf => Ok(signed(s.negative, 0x7ff0_0000_0000_0000)),
+        Place::Nan => Ok(f64::NAN),
+        Place::Hex(16) => Ok(number::of_pattern(s.digits)),
+        Place::Start
+        | Place::Sign
+        | Place::Point
+        | Place::Mark
+        | Place::MarkSign
+        | Place::I
+        | Place::In
+        | Place::N
+        | Place::Na
+        | Place::Hex(_) => Err(n),
     }
 }

@@ -1,5 +1,5 @@
 -- The parts of the layout, and how they are joined. Assumes nothing.
-use mathlib.Core.Path.{◌≡◌, sym, ap, ◌∙◌}
+use mathlib.Core.Path.{◌≡◌, refl, sym, ap, ◌∙◌}
 use mathlib.Core.Logic.{inl, inr}
 use mathlib.Core.Bool.{Bool, cond}
 use mathlib.Core.List.{List, [], ◌∷◌, ◌++◌, append_assoc, append-nil}
@@ -8,9 +8,13 @@ use native.Mathlib.Omega.{arith}
 use borrow.Author.Tests.{lt-ltb, le-ltb, eq-eqb, ne_eqb}
 use Rattle.rounding.proofs.Choose.{le_or_lt}
 use Rattle.text_decimal_write.specs.declared.Decimal.{Decimal}
-use Rattle.text_decimal_write.specs.Decimals.{digits_text}
-use Rattle.text_decimal_write.proofs.Bytes.{three}
-use Rattle.text_decimal_short.specs.Short.{fraction_text, pointed_text, two_or_three, exponent_text, scientific, whole_digits, fixed, laid_out}
+use Rattle.text_decimal_write.specs.Decimals.{digits_text, sign_text}
+use Rattle.std.specs.Int.{abs_diff}
+use Rattle.std.proofs.Common.{max}
+use Rattle.text_decimal_write.specs.Room.{exponent_digits, opening, finite_decimal, laid}
+use Rattle.std.proofs.Common.{Option, Some, None}
+use lib.Ieee.{Float, nan, inf, fin}
+use Rattle.text_decimal_short.specs.Short.{fraction_text, pointed_text, two_or_three, exponent_text, scientific, whole_digits, fixed, laid_out, rounded_to, short_units, short_text, allowed}
 
 -- ---- the fraction
 
@@ -23,37 +27,31 @@ fraction_next (suc k) v h e =
     back : (k : ℕ) → suc k - 1 ≡ k
     back k = omega arith
 
-pub fraction_found : (k v : ℕ) → 0 < k → (v % 10 ≡ 0 → ⊥) → 46 ∷ digits_text k v ≡ fraction_text k v
+pub fraction_found : (t : List ℕ) (k n v : ℕ) → 0 < k → n ≡ k → (v % 10 ≡ 0 → ⊥) → (t ++ 46 ∷ []) ++ digits_text n v ≡ t ++ fraction_text k v
 unfolding fraction_text
-fraction_found zero v h e = absurd (omega arith)
-fraction_found (suc k) v h e = sym (ap (λ (b : Bool). cond b (fraction_text k (v / 10)) (46 ∷ digits_text (suc k) v)) (ne_eqb (v % 10) 0 e))
+fraction_found t zero n v h e z = absurd (omega arith)
+fraction_found t (suc k) n v h e z = append_assoc t (46 ∷ []) (digits_text n v) ∙ rw (e, ne_eqb (v % 10) 0 z)
 
-pub fraction_none : (k v : ℕ) (t : List ℕ) → k ≤ 0 → t ≡ t ++ fraction_text k v
+pub fraction_none : (t : List ℕ) (k v : ℕ) → k ≤ 0 → t ++ fraction_text k v ≡ t
 unfolding fraction_text
-fraction_none zero v t h = sym (append-nil t)
-fraction_none (suc k) v t h = absurd (omega arith)
+fraction_none t zero v h = append-nil t
+fraction_none t (suc k) v h = absurd (omega arith)
 
 -- ---- the exponent
 
-pub two : (x : ℕ) → x < 100 → digits_text 2 x ≡ two_or_three x
-unfolding two_or_three
-two x h = sym (ap (λ (b : Bool). cond b (digits_text 2 x) (digits_text 3 x)) (lt-ltb x 100 h))
+pub exponent_two : (t : ℕ) → abs_diff t 324 < 100 → exponent_digits 2 t ≡ exponent_text t
+unfolding exponent_digits exponent_text two_or_three
+exponent_two t h = elim (le_or_lt 324 t) [
+  | inl g ↦ rw (le-ltb t 324 g, lt-ltb (t - 324) 100 (omega arith))
+  | inr g ↦ rw (lt-ltb t 324 g, lt-ltb (324 - t) 100 (omega arith))
+]
 
-pub or_three : (x : ℕ) → 100 ≤ x → digits_text 3 x ≡ two_or_three x
-unfolding two_or_three
-or_three x h = sym (ap (λ (b : Bool). cond b (digits_text 2 x) (digits_text 3 x)) (le-ltb x 100 h))
-
-pub exponent_minus : (t : List ℕ) (n : ℕ) → n < 324 → ((t ++ 101 ∷ []) ++ 45 ∷ []) ++ two_or_three (324 - n) ≡ t ++ exponent_text n
-unfolding exponent_text
-exponent_minus t n h =
-    three t 101 45 (two_or_three (324 - n))
-    ∙ ap (λ (b : Bool). t ++ cond b (101 ∷ 45 ∷ two_or_three (324 - n)) (101 ∷ 43 ∷ two_or_three (n - 324))) (sym (lt-ltb n 324 h))
-
-pub exponent_plus : (t : List ℕ) (n : ℕ) → 324 ≤ n → ((t ++ 101 ∷ []) ++ 43 ∷ []) ++ two_or_three (n - 324) ≡ t ++ exponent_text n
-unfolding exponent_text
-exponent_plus t n h =
-    three t 101 43 (two_or_three (n - 324))
-    ∙ ap (λ (b : Bool). t ++ cond b (101 ∷ 45 ∷ two_or_three (324 - n)) (101 ∷ 43 ∷ two_or_three (n - 324))) (sym (le-ltb n 324 h))
+pub exponent_three : (t : ℕ) → 100 ≤ abs_diff t 324 → exponent_digits 3 t ≡ exponent_text t
+unfolding exponent_digits exponent_text two_or_three
+exponent_three t h = elim (le_or_lt 324 t) [
+  | inl g ↦ rw (le-ltb t 324 g, le-ltb (t - 324) 100 (omega arith))
+  | inr g ↦ rw (lt-ltb t 324 g, le-ltb (324 - t) 100 (omega arith))
+]
 
 -- ---- joined
 
@@ -68,13 +66,20 @@ scientific_joined t n d = append_assoc t (pointed_text 1 (n - 1) d.digits) (expo
 
 -- ---- which style
 
-pub whole_one : (t : ℕ) → t < 324 → 1 ≡ whole_digits t
+pub whole_is : (t w : ℕ) → w ≡ t - 323 → max w 1 ≡ whole_digits t
 unfolding whole_digits
-whole_one t h = sym (ap (λ (b : Bool). cond b 1 (t - 323)) (lt-ltb t 324 h))
+whole_is t w e = elim (le_or_lt 324 t) [
+  | inl g ↦ rw (le-ltb t 324 g) (omega arith)
+  | inr g ↦ rw (lt-ltb t 324 g) (omega arith)
+]
 
-pub whole_more : (t : ℕ) → 324 ≤ t → t - 323 ≡ whole_digits t
+whole_one : (t : ℕ) → t < 324 → 1 ≡ whole_digits t
 unfolding whole_digits
-whole_more t h = sym (ap (λ (b : Bool). cond b 1 (t - 323)) (le-ltb t 324 h))
+whole_one t h = rw (lt-ltb t 324 h)
+
+whole_more : (t : ℕ) → 324 ≤ t → t - 323 ≡ whole_digits t
+unfolding whole_digits
+whole_more t h = rw (le-ltb t 324 h)
 
 -- both parts of a text in style f, and the point, fit behind a sign
 pub whole_room : (l n t w : ℕ) → l ≤ 1 → n ≤ 17 → 320 ≤ t → t < n + 324 → w ≡ whole_digits t → l + w + (n + 323 - t) < 32
@@ -98,3 +103,20 @@ module _ (n : ℕ) (d : Decimal) where
   pub laid_large : 320 ≤ d.tens → n + 324 ≤ d.tens → scientific n d ≡ laid_out n d
   unfolding laid_out
   laid_large h k = sym (rw (le-ltb d.tens 320 h, le-ltb d.tens (n + 324) k))
+
+-- ---- the text, from its opening and its decimal
+
+text_joined : (n : ℕ) (x : Float) → opening x ++ laid (λ d. laid_out n (rounded_to n d)) (finite_decimal x) ≡ short_text n x
+unfolding opening finite_decimal short_text short_units
+text_joined n nan = refl
+text_joined n (inf s) = append-nil (sign_text s ++ 105 ∷ 110 ∷ 102 ∷ [])
+text_joined n (fin s m e) = refl
+
+pub text_some : (m n : ℕ) (x : Float) (d : Decimal) → m ≡ allowed n → finite_decimal x ≡ Some d → opening x ++ laid_out m (rounded_to m d) ≡ short_text (allowed n) x
+text_some m n x d a e =
+    ap (λ (o : Option Decimal). opening x ++ laid (λ d. laid_out m (rounded_to m d)) o) (sym e)
+    ∙ text_joined m x
+    ∙ ap (λ (z : ℕ). short_text z x) a
+
+pub text_none : (n : ℕ) (x : Float) → finite_decimal x ≡ None → opening x ≡ short_text n x
+text_none n x e = sym (append-nil (opening x)) ∙ ap (λ (o : Option Decimal). opening x ++ laid (λ d. laid_out n (rounded_to n d)) o) (sym e) ∙ text_joined n x

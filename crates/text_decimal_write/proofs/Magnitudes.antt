@@ -1,10 +1,11 @@
 -- From a pattern to the text of its number. Assumes nothing.
 use mathlib.Core.Path.{◌≡◌, refl, sym, ap, ◌∙◌, subst}
 use mathlib.Core.Bool.{Bool, true, false, cond}
-use mathlib.Core.List.{List, [], ◌∷◌, ◌++◌}
+use mathlib.Core.List.{[], ◌∷◌, ◌++◌, append-nil}
+use Rattle.std.proofs.Common.{Option, Some, None}
 use mathlib.Core.Logic.{inl, inr}
 use Prim.Native.Nat.{ℕ, zero, suc, ◌+◌, ◌-◌, ◌*◌, ◌/◌, ◌%◌, ◌^◌, ◌≤◌, ◌<◌}
-use native.Mathlib.Nat.{le_of_eq, not-le_of_lt, mul-one, mul-pos, mul-div_cancel}
+use native.Mathlib.Nat.{le_of_eq, le_of_lt, not-le_of_lt, mul-one, mul-pos, mul-div_cancel}
 use native.Mathlib.Omega.{arith}
 use borrow.Author.Tests.{lt-ltb, le-ltb, ne_eqb}
 use lib.Dec.{T, eqb, leb, lit<}
@@ -21,7 +22,7 @@ use Rattle.rounding.proofs.Choose.{le_or_lt}
 use Rattle.rounding.proofs.Pattern.{units_at, bits_value_signed, finite_bits, mod_63}
 use Rattle.text_decimal_write.specs.declared.Decimal.{Decimal}
 use Rattle.text_decimal_write.specs.Decimals.{over, under, reaches, largest, tens, decimal_of, units_decimal, decimal_text, units_text, sign_text, text_of}
-use Rattle.text_decimal_write.specs.Room.{units_of, magnitude_text}
+use Rattle.text_decimal_write.specs.Room.{units_of, opening, finite_decimal, laid}
 
 -- ---- tens are few
 
@@ -72,16 +73,6 @@ large_decimal b h =
   where
     some : (b : ℕ) → 0 < 2 ^ 52 + b % 2 ^ 52
     some b = omega arith
-
--- ---- a magnitude
-
-pub finite_text : (b : ℕ) → b < 0x7ff0_0000_0000_0000 → decimal_text (units_decimal (units_of b)) ≡ magnitude_text b
-unfolding magnitude_text units_text
-finite_text b h = sym (ap (λ (t : Bool). cond t (units_text (units_of b)) (105 ∷ 110 ∷ 102 ∷ [])) (lt-ltb b 0x7ff0_0000_0000_0000 h))
-
-pub infinite_text : (b : ℕ) → 0x7ff0_0000_0000_0000 ≤ b → 105 ∷ 110 ∷ 102 ∷ [] ≡ magnitude_text b
-unfolding magnitude_text
-infinite_text b h = sym (ap (λ (t : Bool). cond t (units_text (units_of b)) (105 ∷ 110 ∷ 102 ∷ [])) (le-ltb b 0x7ff0_0000_0000_0000 h))
 
 -- ---- a number's pattern
 
@@ -137,25 +128,39 @@ unfolding to_bits
 inf_magnitude true b e = (ap (λ (z : ℕ). z % 2 ^ 63) e, ap (leb (2 ^ 63)) e)
 inf_magnitude false b e = (ap (λ (z : ℕ). z % 2 ^ 63) e, ap (leb (2 ^ 63)) e)
 
-pub nan_text : (x : Float) (b : ℕ) → T (fits binary64 x) → b ≡ to_bits binary64 x → 0x7ff0_0000_0000_0000 < b % 2 ^ 63 → 110 ∷ 97 ∷ 110 ∷ [] ≡ text_of x
-unfolding text_of
-nan_text nan b f e h = refl
-nan_text (inf s) b f e h = absurd (no (b % 2 ^ 63) (inf_magnitude s b e).0 h)
-  where
-    no : (m : ℕ) → m ≡ 0x7ff0_0000_0000_0000 → 0x7ff0_0000_0000_0000 < m → ⊥
-    no m e h = omega arith
-nan_text (fin s m y) b f e h = absurd (no (b % 2 ^ 63) (parts s m y b f e).below h)
-  where
-    no : (m : ℕ) → m < 0x7ff0_0000_0000_0000 → 0x7ff0_0000_0000_0000 < m → ⊥
-    no m e h = omega arith
+pub opening_nan : (x : Float) (b : ℕ) → T (fits binary64 x) → b ≡ to_bits binary64 x → 0x7ff0_0000_0000_0000 < b % 2 ^ 63
+    → (opening x ≡ 110 ∷ 97 ∷ 110 ∷ []) × (finite_decimal x ≡ None)
+unfolding opening finite_decimal
+opening_nan nan b f e h = (refl, refl)
+opening_nan (inf s) b f e h = absurd (not-le_of_lt h (le_of_eq (inf_magnitude s b e).0))
+opening_nan (fin s m y) b f e h = absurd (not-le_of_lt h (le_of_lt (parts s m y b f e).below))
 
-pub number_text : (x : Float) (b : ℕ) → T (fits binary64 x) → b ≡ to_bits binary64 x → b % 2 ^ 63 ≤ 0x7ff0_0000_0000_0000 → sign_text (leb (2 ^ 63) b) ++ magnitude_text (b % 2 ^ 63) ≡ text_of x
-unfolding text_of units_text
-number_text nan b f e h = absurd (not-le_of_lt (nan_magnitude b e) h)
-number_text (inf s) b f e h =
-    let i = inf_magnitude s b e in
-    ap (λ (t : Bool). sign_text t ++ magnitude_text (b % 2 ^ 63)) i.1 ∙ ap (λ (t : List ℕ). sign_text s ++ t) (sym (infinite_text (b % 2 ^ 63) (le_of_eq (sym i.0))))
-number_text (fin s m y) b f e h =
+pub opening_inf : (x : Float) (b : ℕ) → T (fits binary64 x) → b ≡ to_bits binary64 x → b % 2 ^ 63 ≡ 0x7ff0_0000_0000_0000
+    → (opening x ≡ sign_text (leb (2 ^ 63) b) ++ 105 ∷ 110 ∷ 102 ∷ []) × (finite_decimal x ≡ None)
+unfolding opening finite_decimal
+opening_inf nan b f e h = absurd (not-le_of_lt (nan_magnitude b e) (le_of_eq h))
+opening_inf (inf s) b f e h = (ap (λ (t : Bool). sign_text t ++ 105 ∷ 110 ∷ 102 ∷ []) (sym (inf_magnitude s b e).1), refl)
+opening_inf (fin s m y) b f e h = absurd (not-le_of_lt (parts s m y b f e).below (le_of_eq (sym h)))
+
+pub opening_finite : (x : Float) (b : ℕ) → T (fits binary64 x) → b ≡ to_bits binary64 x → b % 2 ^ 63 < 0x7ff0_0000_0000_0000
+    → (opening x ≡ sign_text (leb (2 ^ 63) b)) × (finite_decimal x ≡ Some (units_decimal (units_of (b % 2 ^ 63))))
+unfolding opening finite_decimal
+opening_finite nan b f e h = absurd (not-le_of_lt (nan_magnitude b e) (le_of_lt h))
+opening_finite (inf s) b f e h = absurd (not-le_of_lt h (le_of_eq (sym (inf_magnitude s b e).0)))
+opening_finite (fin s m y) b f e h =
     let p = parts s m y b f e in
-    ap (λ (t : Bool). sign_text t ++ magnitude_text (b % 2 ^ 63)) (sym p.sign)
-    ∙ ap (λ (t : List ℕ). sign_text s ++ t) (sym (finite_text (b % 2 ^ 63) p.below) ∙ ap units_text (sym p.units))
+    (ap sign_text p.sign, ap (λ (u : ℕ). Some (units_decimal u)) p.units)
+
+-- ---- the text, from its opening and its decimal
+
+text_joined : (x : Float) → opening x ++ laid decimal_text (finite_decimal x) ≡ text_of x
+unfolding opening finite_decimal text_of units_text
+text_joined nan = refl
+text_joined (inf s) = append-nil (sign_text s ++ 105 ∷ 110 ∷ 102 ∷ [])
+text_joined (fin s m e) = refl
+
+pub text_some : (x : Float) (d : Decimal) → finite_decimal x ≡ Some d → opening x ++ decimal_text d ≡ text_of x
+text_some x d e = ap (λ (o : Option Decimal). opening x ++ laid decimal_text o) (sym e) ∙ text_joined x
+
+pub text_none : (x : Float) → finite_decimal x ≡ None → opening x ≡ text_of x
+text_none x e = sym (append-nil (opening x)) ∙ ap (λ (o : Option Decimal). opening x ++ laid decimal_text o) (sym e) ∙ text_joined x

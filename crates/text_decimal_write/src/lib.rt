@@ -1,14 +1,16 @@
 // The decimal of 17 digits nearest to an f64, and its text.
 #![tactic(auto)]
 
-ghost use Rattle.std.specs.Prelude.{◌≡◌, List, ◌∷◌, [], ◌++◌, ℕ, ◌+◌, ◌-◌, ◌*◌, ◌/◌, ◌%◌, ◌≤◌, ◌<◌, ◌^◌, T, Float};
-ghost use Rattle.std.specs.Float.{binary64};
-ghost use Rattle.std.specs.Float.Ieee.{fits, to_bits};
+ghost use Rattle.std.specs.Prelude.{◌≡◌, ◌++◌, ℕ, ◌+◌, ◌-◌, ◌*◌, ◌/◌, ◌%◌, ◌≤◌, ◌<◌, ◌^◌, IfSome};
 ghost use Rattle.std.specs.Float.Ieee.Nearest.{closest};
 ghost use Rattle.text_limbs.specs.Remains.{CutBy};
-ghost use Rattle.text_limbs.specs.Limbs.{value, Limbs};
-ghost use Rattle.text_decimal_write.specs.Decimals.{settled, decimal_of, units_decimal, digits_text, exponent_text, decimal_text, text_of, written, written_of};
-ghost use Rattle.text_decimal_write.specs.Room.{guess_of, units_of, magnitude_text};
+ghost use Rattle.text_limbs.specs.Limbs.{value};
+ghost use Rattle.arrayvec.specs.ArrayVec.{array_vec_len};
+ghost use Rattle.text_decimal_write.specs.Decimals.{settled, decimal_of, units_decimal, digits_text, decimal_text, written, written_of};
+ghost use Rattle.text_decimal_write.specs.Room.{guess_of, units_of, exponent_digits, opening, finite_decimal};
+
+use arrayvec::ArrayVec;
+use text_limbs::Whole;
 
 // digits * 10 ^ (tens - 340)
 #[derive(Clone, Copy)]
@@ -17,12 +19,8 @@ pub struct Decimal {
     pub tens: usize,
 }
 
-// The first `length` bytes are the text.
-#[derive(Clone, Copy)]
-pub struct Written {
-    pub bytes: [u8; 32],
-    pub length: usize,
-}
+// A text of at most 32 bytes
+pub type Text = ArrayVec<u8, 32>;
 
 // For a number of z binary digits: its tens, or one less.
 fn guess(z: usize) -> usize
@@ -33,9 +31,9 @@ fn guess(z: usize) -> usize
 }
 
 // The limbs times 10 ^ 340 over 10 ^ t, cut to a whole number; whether something was cut off
-fn scale(l: &mut [u64; 72], t: usize) -> bool
-    requires { Limbs l.old × (value l.old * 10 ^ (340 - t) < 2 ^ 2304) }
-    ensures { CutBy (value l.old * 10 ^ (340 - t)) (10 ^ (t - 340)) (value l.new) result × Limbs l.new }
+fn scale(l: &mut Whole, t: usize) -> bool
+    requires { value l.old.limbs * 10 ^ (340 - t) < 2 ^ 2304 }
+    ensures { CutBy (value l.old.limbs * 10 ^ (340 - t)) (10 ^ (t - 340)) (value l.new.limbs) result }
 {
     if t <= 340 {
         text_limbs::ten::multiply(l, 340 - t);
@@ -45,9 +43,10 @@ fn scale(l: &mut [u64; 72], t: usize) -> bool
 }
 
 // The limbs hold a fraction times 2 ^ 1074, cut to a whole number.
-fn nearest(l: &[u64; 72], rest: bool, t: usize) -> Decimal
-    requires { Limbs l.now × (value l.now / 2 ^ 1073 < 2 ^ 63) × (t < 1000) }
-    ensures { (num den : ℕ) → 0 < den → CutBy num den (value l.now) rest → result ≡ settled (closest num (den * 2 ^ 1074)) t }
+#[tactic(auto, using(crate::proofs::Seventeen::nearest_is))]
+fn nearest(l: &Whole, rest: bool, t: usize) -> Decimal
+    requires { (value l.now.limbs / 2 ^ 1073 < 2 ^ 63) × (t < 1000) }
+    ensures { (num den : ℕ) → 0 < den → CutBy num den (value l.now.limbs) rest → result ≡ settled (closest num (den * 2 ^ 1074)) t }
 {
     let c = text_limbs::cut_off(l, 1073);
     let digits = text_limbs::halved(c.whole, rest | c.rest);
@@ -57,10 +56,7 @@ fn nearest(l: &[u64; 72], rest: bool, t: usize) -> Decimal
             tens: t + 1,
         };
     }
-    Decimal {
-        digits: digits,
-        tens: t,
-    }
+    Decimal { digits, tens: t }
 }
 
 // The decimal of sig * 2 ^ place units
@@ -80,39 +76,28 @@ fn decimal_of(sig: u64, place: usize) -> Decimal
 }
 
 // The decimal of a finite magnitude, by its pattern b.
+#[tactic(auto, using(crate::proofs::Magnitudes::zero_decimal, crate::proofs::Magnitudes::small_decimal, crate::proofs::Magnitudes::large_decimal, crate::proofs::Magnitudes::tens_few))]
 pub fn of_magnitude(b: u64) -> Decimal
     requires { b < 0x7ff0_0000_0000_0000 }
-    ensures { (result ≡ units_decimal (units_of b)) × (result.tens < 1000) }
+    ensures decimal { result ≡ units_decimal (units_of b) }
+    ensures tens { result.tens < 1000 }
 {
-    if b == 0 {
-        return Decimal {
+    match b {
+        0 => Decimal {
             digits: 0,
             tens: 324,
-        };
-    }
-    if b < 0x10_0000_0000_0000 {
-        return decimal_of(b, 0);
-    }
-    let sig = 0x10_0000_0000_0000 + b % 0x10_0000_0000_0000;
-    let place = (b / 0x10_0000_0000_0000 - 1) as usize;
-    decimal_of(sig, place)
-}
-
-// The text, and one byte more.
-pub fn push(w: Written, c: u8) -> Written
-    requires { w.length < 32 }
-    ensures { (result.length ≡ w.length + 1) × ((t : List ℕ) → w ≡ written t → result ≡ written (t ++ c ∷ [])) }
-{
-    let mut bytes = w.bytes;
-    let n = w.length;
-    bytes[n] = c;
-    Written {
-        bytes: bytes,
-        length: n + 1,
+        },
+        1..=0xf_ffff_ffff_ffff => decimal_of(b, 0),
+        _ => {
+            let sig = 0x10_0000_0000_0000 + b % 0x10_0000_0000_0000;
+            let place = (b / 0x10_0000_0000_0000 - 1) as usize;
+            decimal_of(sig, place)
+        }
     }
 }
 
 // v / 10 ^ n, cut to a whole number
+#[tactic(auto, using(text_limbs::proofs::Tens::ten_pos, crate::proofs::Bytes::cut_twice))]
 pub fn cut(v: u64, n: usize) -> u64
     requires { n ≤ 32 }
     ensures { result ≡ v / 10 ^ n }
@@ -123,79 +108,79 @@ pub fn cut(v: u64, n: usize) -> u64
     v / 10_000_000_000_000_000 / text_limbs::ten::power(n - 16)
 }
 
+fn push_word(text: &mut Text, word: &[u8; 3])
+    requires { array_vec_len text.old ≤ 1 }
+    ensures { text.new.items ≡ text.old.items ++ word.now }
+{
+    text.try_extend_from_slice(word).unwrap();
+}
+
 // n digits of v
-pub fn push_digits(w: Written, v: u64, n: usize) -> Written
-    requires { w.length + n ≤ 32 }
-    ensures { (result.length ≡ w.length + n) × ((t : List ℕ) → w ≡ written t → result ≡ written (t ++ digits_text n v)) }
+pub fn push_digits(text: &mut Text, v: u64, n: usize)
+    requires { array_vec_len text.old + n ≤ 32 }
+    ensures items { text.new.items ≡ text.old.items ++ digits_text n v }
+    ensures len { array_vec_len text.new ≡ array_vec_len text.old + n }
 {
-    let mut out = w;
-    let mut left = n;
-    while left > 0 {
-        left -= 1;
-        let d = cut(v, left) % 10;
-        out = push(out, b'0' + d as u8);
-    }
-    out
-}
-
-fn push_exponent(w: Written, tens: usize) -> Written
-    requires { (w.length ≤ 27) × (tens < 1000) }
-    ensures { (t : List ℕ) → w ≡ written t → result ≡ written (t ++ exponent_text tens) }
-{
-    let marked = push(w, b'e');
-    if tens < 324 {
-        return push_digits(push(marked, b'-'), (324 - tens) as u64, 3);
-    }
-    push_digits(push(marked, b'+'), (tens - 324) as u64, 3)
-}
-
-fn push_decimal(w: Written, d: Decimal) -> Written
-    requires { (w.length ≤ 1) × (d.tens < 1000) }
-    ensures { (t : List ℕ) → w ≡ written t → result ≡ written (t ++ decimal_text d) }
-{
-    let first = push_digits(w, d.digits / 10_000_000_000_000_000, 1);
-    let all = push_digits(push(first, b'.'), d.digits % 10_000_000_000_000_000, 16);
-    push_exponent(all, d.tens)
-}
-
-// inf, or the decimal, of the magnitude's pattern b
-fn push_magnitude(w: Written, b: u64) -> Written
-    requires { (w.length ≤ 1) × (b ≤ 0x7ff0_0000_0000_0000) }
-    ensures { (t : List ℕ) → w ≡ written t → result ≡ written (t ++ magnitude_text b) }
-{
-    if b < 0x7ff0_0000_0000_0000 {
-        return push_decimal(w, of_magnitude(b));
-    }
-    push(push(push(w, b'i'), b'n'), b'f')
-}
-
-// No byte yet
-pub fn empty() -> Written
-    ensures { result ≡ written [] }
-{
-    Written {
-        bytes: [0u8; 32],
-        length: 0,
+    for left in (0..n).rev() {
+        text.push(b'0' + (cut(v, left) % 10) as u8);
     }
 }
 
-// b is a number's pattern, or that of every NaN.
-fn text_of(b: u64) -> Written
-    ensures { (x : Float) → T (fits binary64 x) → b ≡ to_bits binary64 x → result ≡ written (text_of x) }
+// The exponent of a number whose first digit has the weight 10 ^ (tens - 324), with n digits
+pub fn push_exponent(text: &mut Text, tens: usize, n: usize)
+    requires { array_vec_len text.old + n ≤ 30 }
+    ensures items { text.new.items ≡ text.old.items ++ exponent_digits n tens }
+    ensures len { array_vec_len text.new ≡ array_vec_len text.old + 2 + n }
 {
+    text.push(b'e');
+    text.push(if tens < 324 { b'-' } else { b'+' });
+    push_digits(text, tens.abs_diff(324) as u64, n);
+}
+
+#[tactic(auto, using(crate::proofs::Bytes::three_digits, crate::proofs::Bytes::decimal_joined))]
+fn push_decimal(text: &mut Text, d: Decimal)
+    requires { (array_vec_len text.old ≤ 1) × (d.tens < 1000) }
+    ensures { text.new.items ≡ text.old.items ++ decimal_text d }
+{
+    push_digits(text, d.digits / 10_000_000_000_000_000, 1);
+    text.push(b'.');
+    push_digits(text, d.digits % 10_000_000_000_000_000, 16);
+    push_exponent(text, d.tens, 3);
+}
+
+// Of a number's text `nan`, or the sign, and `inf`; and the decimal that is to come where it is finite.
+#[tactic(auto, using(crate::proofs::Magnitudes::opening_nan, crate::proofs::Magnitudes::opening_inf, crate::proofs::Magnitudes::opening_finite))]
+pub fn opening(x: f64) -> (Text, Option<Decimal>)
+    ensures text { result.0 ≡ written (opening x) }
+    ensures decimal { result.1 ≡ finite_decimal x }
+    ensures tens { IfSome result.1 (λ d. d.tens < 1000) }
+    ensures room { IfSome result.1 (λ d. array_vec_len result.0 ≤ 1) }
+{
+    let b = number::pattern(x);
     let magnitude = b % 0x8000_0000_0000_0000;
+    let mut text = Text::new();
     if magnitude > 0x7ff0_0000_0000_0000 {
-        return push(push(push(empty(), b'n'), b'a'), b'n');
+        push_word(&mut text, b"nan");
+        return (text, None);
     }
-    if b < 0x8000_0000_0000_0000 {
-        return push_magnitude(empty(), magnitude);
+    if b >= 0x8000_0000_0000_0000 {
+        text.push(b'-');
     }
-    push_magnitude(push(empty(), b'-'), magnitude)
+    if magnitude == 0x7ff0_0000_0000_0000 {
+        push_word(&mut text, b"inf");
+        return (text, None);
+    }
+    (text, Some(of_magnitude(magnitude)))
 }
 
 // The text of a number: 17 digits, or `inf`, `-inf`, `nan`.
-pub fn write(x: f64) -> Written
+#[tactic(auto, using(crate::proofs::Magnitudes::text_some, crate::proofs::Magnitudes::text_none), unfolding(crate::specs::Decimals::written_of))]
+pub fn write(x: f64) -> Text
     ensures { result ≡ written_of x }
 {
-    text_of(number::pattern(x))
+    let (mut text, decimal) = opening(x);
+    if let Some(d) = decimal {
+        push_decimal(&mut text, d);
+    }
+    text
 }

@@ -49,20 +49,17 @@ top_size l i h k e p =
     last : (z g i j : ℕ) → z ≡ suc (32 * i + j) → g + suc j ≡ 64 → z + g ≡ 32 * suc i + 32
     last z g i j a b = omega arith
 
-pub digits_are : (l : List ℕ) (n : ℕ) → Limbs l → n ≤ 72 → value (drop n l) ≡ 0 → 0 < n → 0 < get_or l (n - 1) 0
-    → (count_leading_zeros 64 (get_or l (n - 1) 0) ≤ 32 * n + 32) × (32 * n + 32 - count_leading_zeros 64 (get_or l (n - 1) 0) ≡ size (value l))
-digits_are l n h k e a p =
-    go (size (value l)) (count_leading_zeros 64 (get_or l (n - 1) 0)) n a
-    (top_size l (n - 1) h (less n a k) (subst (λ (j : ℕ). value (drop j l) ≡ 0) (back n a) e) p)
+pub digits_are : (l : List ℕ) (i : ℕ) → Limbs l → (i < 72) × (value (drop (i + 1) l) ≡ 0) × (0 < get_or l i 0)
+    → (count_leading_zeros 64 (get_or l i 0) ≤ 32 * i + 64) × (32 * i + 64 - count_leading_zeros 64 (get_or l i 0) ≡ size (value l))
+digits_are l i h p =
+    go (size (value l)) (count_leading_zeros 64 (get_or l i 0)) i
+    (top_size l i h p.0 (subst (λ (j : ℕ). value (drop j l) ≡ 0) (next i) p.1) p.2)
   where
-    less : (n : ℕ) → 0 < n → n ≤ 72 → n - 1 < 72
-    less n a k = omega arith
+    next : (i : ℕ) → i + 1 ≡ suc i
+    next i = omega arith
 
-    back : (n : ℕ) → 0 < n → n ≡ suc (n - 1)
-    back n a = omega arith
-
-    go : (z g n : ℕ) → 0 < n → z + g ≡ 32 * suc (n - 1) + 32 → (g ≤ 32 * n + 32) × (32 * n + 32 - g ≡ z)
-    go z g n a e = (omega arith, omega arith)
+    go : (z g i : ℕ) → z + g ≡ 32 * suc i + 32 → (g ≤ 32 * i + 64) × (32 * i + 64 - g ≡ z)
+    go z g i e = (omega arith, omega arith)
 
 pub size_zero : size 0 ≡ 0
 unfolding size

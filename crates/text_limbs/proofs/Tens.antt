@@ -100,6 +100,19 @@ pub raised_next : (l₀ l k : List ℕ) (e left r : ℕ) → Raised l₀ l e lef
 raised_next l₀ l k e left r h n c s =
     record { limbs = s; is = (raise l₀ l k e left (10 ^ 9) (10 ^ (left - 9)) r h (ten_nine left n) (ten_pos (left - 9)) c).1; fits = h.fits }
 
+less : (e n : ℕ) → e - 9 * n - 9 ≡ e - 9 * (n + 1)
+less e n = omega arith
+
+more : (e n : ℕ) → n < e / 9 → 9 ≤ e - 9 * n
+more e n m = omega arith
+
+pub left_at : (e n : ℕ) → n ≡ e / 9 → e - 9 * n ≡ e % 9
+left_at e n h = omega arith
+
+-- nine digits more, the n-th time
+pub raised_step : (l₀ l k : List ℕ) (e n r : ℕ) → Raised l₀ l e (e - 9 * n) → n < e / 9 → value k + 2 ^ 2304 * r ≡ value l * 1000000000 → Limbs k → Raised l₀ k e (e - 9 * (n + 1))
+raised_step l₀ l k e n r h m c s = subst (λ (z : ℕ). Raised l₀ k e z) (less e n) (raised_next l₀ l k e (e - 9 * n) r h (more e n m) c s)
+
 pub raised_last : (l₀ l k : List ℕ) (e left r : ℕ) → Raised l₀ l e left → value k + 2 ^ 2304 * r ≡ value l * 10 ^ left → value k ≡ value l₀ * 10 ^ e
 raised_last l₀ l k e left r h c = (raise l₀ l k e left (10 ^ left) 1 r h (one (10 ^ left)) (lit< tt) c).0 ∙ h.is
   where
@@ -192,6 +205,11 @@ lowered_next l₀ l k e left r rest h n c d s =
   where
     more : (e left : ℕ) → left ≤ e → 9 ≤ left → e - left + 9 ≡ e - (left - 9)
     more e left a b = omega arith
+
+pub lowered_step : (l₀ l k : List ℕ) (e n r : ℕ) (rest : Bool) → Lowered l₀ l e (e - 9 * n) rest → n < e / 9 → value l ≡ value k * 1000000000 + r → r < 1000000000 → Limbs k
+    → Lowered l₀ k e (e - 9 * (n + 1)) (rest || not (eqb r 0))
+lowered_step l₀ l k e n r rest h m c d s =
+    subst (λ (z : ℕ). Lowered l₀ k e z (rest || not (eqb r 0))) (less e n) (lowered_next l₀ l k e (e - 9 * n) r rest h (more e n m) c d s)
 
 pub lowered_last : (l₀ l k : List ℕ) (e left r p : ℕ) (rest : Bool) → Lowered l₀ l e left rest → p ≡ 10 ^ left → value l ≡ value k * p + r → r < p → CutBy (value l₀) (10 ^ e) (value k) (rest || not (eqb r 0))
 lowered_last l₀ l k e left r p rest h q c d =

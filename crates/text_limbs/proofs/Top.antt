@@ -1,29 +1,16 @@
 -- Which limbs are zero: those below a place, and those from a place on. Assumes nothing.
-use mathlib.Core.Path.{◌≡◌, refl, sym, ap, ◌∙◌, subst}
-use mathlib.Core.Bool.{true, not}
+use mathlib.Core.Path.{◌≡◌, refl, sym}
+use mathlib.Core.Bool.{Bool, true, false}
 use mathlib.Core.List.{List, [], ◌∷◌}
-use Prim.Native.Nat.{ℕ, zero, suc, ◌+◌, ◌-◌, ◌*◌, ◌^◌, ◌≤◌, ◌<◌}
-use native.Mathlib.Nat.{le_of_eq}
+use Prim.Native.Nat.{ℕ, zero, suc, ◌+◌, ◌≤◌, ◌<◌}
 use native.Mathlib.Omega.{arith}
-use borrow.Author.Tests.{ne_eqb}
+use borrow.Author.Tests.{eq-eqb, ne_eqb}
 use lib.Dec.{eqb}
-use lib.ListN.{length, get_or, take, drop, drop_of_length-le}
-use lib.Seq.{get_or-take}
+use Rattle.std.proofs.Common.{IsTrue, ◌↔◌, EachIndex}
+use lib.ListN.{length, get_or, drop}
 use Rattle.text_limbs.specs.Limbs.{value}
-use Rattle.text_limbs.proofs.Value.{weight, take_value, drop_value}
 
--- ---- from the bottom
-
-pub none_below : (l : List ℕ) → value (take 0 l) ≡ 0
-unfolding value
-none_below l = refl
-
--- one more that is zero
-pub more_below : (l : List ℕ) (i : ℕ) → i < length l → value (take i l) ≡ 0 → get_or l i 0 ≡ 0 → value (take (suc i) l) ≡ 0
-more_below l i h e f = take_value l i h ∙ go (value (take i l)) (weight i) (get_or l i 0) e f
-  where
-    go : (v w x : ℕ) → v ≡ 0 → x ≡ 0 → v + w * x ≡ 0
-    go v w x e f = let g = ap (λ (z : ℕ). w * z) f in omega (arith, g)
+-- ---- all of them
 
 zero_limb : (l : List ℕ) (i : ℕ) → value l ≡ 0 → get_or l i 0 ≡ 0
 unfolding value
@@ -31,27 +18,24 @@ zero_limb [] i e = refl
 zero_limb (x ∷ l) zero e = omega arith
 zero_limb (x ∷ l) (suc i) e = zero_limb l i (omega arith)
 
--- one that is not
-pub some_below : (l : List ℕ) (i n : ℕ) → i < n → (get_or l i 0 ≡ 0 → ⊥) → not (eqb (value (take n l)) 0) ≡ true
-some_below l i n h e =
-    ap not (ne_eqb (value (take n l)) 0 (λ (z : value (take n l) ≡ 0). e (sym (get_or-take n l i 0 h) ∙ zero_limb (take n l) i z)))
-
--- ---- from the top
-
-pub none_above : (l : List ℕ) → length l ≡ 72 → value (drop 72 l) ≡ 0
+pub zero_value : (l : List ℕ) → ((i : ℕ) → i < length l → get_or l i 0 ≡ 0) → value l ≡ 0
 unfolding value
-none_above l h = ap value (drop_of_length-le l (le_of_eq h))
+zero_value [] h = refl
+zero_value (x ∷ l) h =
+    let first = h 0 (omega arith) in
+    let rest = zero_value l (λ i k. h (suc i) (omega arith)) in
+    omega arith
 
-pub more_above : (l : List ℕ) (i : ℕ) → length l ≡ 72 → 0 < i → i ≤ 72 → value (drop i l) ≡ 0 → get_or l (i - 1) 0 ≡ 0 → value (drop (i - 1) l) ≡ 0
-more_above l i n a b e f =
-    drop_value l (i - 1) (subst (λ (z : ℕ). i - 1 < z) (sym n) (less i a b))
-    ∙ go (get_or l (i - 1) 0) (value (drop (suc (i - 1)) l)) f (subst (λ (j : ℕ). value (drop j l) ≡ 0) (back i a) e)
-  where
-    less : (i : ℕ) → 0 < i → i ≤ 72 → i - 1 < 72
-    less i a b = omega arith
+pub all_are : (l : List ℕ) (r : Bool) → IsTrue r ↔ EachIndex l (λ k. get_or l k 0 ≡ 0) → r ≡ eqb (value l) 0
+all_are l true h = sym (eq-eqb (value l) 0 (zero_value l (h.0 refl)))
+all_are l false h = sym (ne_eqb (value l) 0 (λ e. let z : false ≡ true = h.1 (λ k i. zero_limb l k e) in cc))
 
-    back : (i : ℕ) → 0 < i → i ≡ suc (i - 1)
-    back i a = omega arith
+-- ---- those from a place on
 
-    go : (x v : ℕ) → x ≡ 0 → v ≡ 0 → x + 2 ^ 32 * v ≡ 0
-    go x v e f = omega arith
+from_on : (l : List ℕ) (i : ℕ) → ((k : ℕ) → k < length l → i ≤ k → get_or l k 0 ≡ 0) → value (drop i l) ≡ 0
+from_on l zero h = zero_value l (λ k b. h k b (omega arith))
+from_on [] (suc i) h = zero_value [] (λ k b. absurd (omega arith))
+from_on (x ∷ l) (suc i) h = from_on l i (λ k b e. h (suc k) (omega arith) (omega arith))
+
+pub zero_above : (l : List ℕ) (i : ℕ) → ((k : ℕ) → k < length l → i < k → get_or l k 0 ≡ 0) → value (drop (i + 1) l) ≡ 0
+zero_above l i h = from_on l (i + 1) (λ k b e. h k b (omega arith))

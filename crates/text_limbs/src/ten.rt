@@ -1,6 +1,8 @@
 // Powers of ten, and limbs multiplied or divided by them.
 ghost use Rattle.std.specs.Prelude.{◌≡◌, not, ◌*◌, ◌/◌, ◌%◌, ◌^◌, ◌<◌, eqb};
-ghost use Rattle.text_limbs.specs.Limbs.{value, Limbs};
+ghost use Rattle.text_limbs.specs.Limbs.{value};
+
+use crate::Whole;
 
 const TENS: [u64; 17] = [
     1,
@@ -23,6 +25,7 @@ const TENS: [u64; 17] = [
 ];
 
 // 10 ^ n
+#[tactic(auto, using(crate::proofs::Tens::powers))]
 pub fn power(n: usize) -> u64
     requires { n < 17 }
     ensures { result ≡ 10 ^ n }
@@ -31,30 +34,27 @@ pub fn power(n: usize) -> u64
 }
 
 // Multiplies by 10 ^ e, nine digits at a step.
-pub fn multiply(l: &mut [u64; 72], e: usize)
-    requires { Limbs l.old × (value l.old * 10 ^ e < 2 ^ 2304) }
-    ensures { (value l.new ≡ value l.old * 10 ^ e) × Limbs l.new }
+#[tactic(auto, using(crate::proofs::Tens::raised_first, crate::proofs::Tens::raised_last, crate::proofs::Tens::small_power))]
+pub fn multiply(n: &mut Whole, e: usize)
+    requires { value n.old.limbs * 10 ^ e < 2 ^ 2304 }
+    ensures { value n.new.limbs ≡ value n.old.limbs * 10 ^ e }
 {
-    let mut left = e;
-    while left >= 9 {
-        crate::times(l, 1_000_000_000);
-        left -= 9;
+    for _ in 0..e / 9 {
+        crate::times(n, 1_000_000_000);
     }
-    crate::times(l, power(left));
+    crate::times(n, power(e % 9));
 }
 
 // Divides by 10 ^ e, and says whether there was a remainder.
-pub fn divide(l: &mut [u64; 72], e: usize) -> bool
-    requires { Limbs l.old }
-    ensures { (value l.new ≡ value l.old / 10 ^ e) × (result ≡ not (eqb (value l.old % 10 ^ e) 0)) × Limbs l.new }
+#[tactic(auto, using(crate::proofs::Tens::lowered_first, crate::proofs::Tens::lowered_step, crate::proofs::Tens::lowered_last, crate::proofs::Tens::small_power))]
+pub fn divide(n: &mut Whole, e: usize) -> bool
+    ensures { (value n.new.limbs ≡ value n.old.limbs / 10 ^ e) × (result ≡ not (eqb (value n.old.limbs % 10 ^ e) 0)) }
 {
-    let mut left = e;
     let mut rest = false;
-    while left >= 9 {
-        let r = crate::over(l, 1_000_000_000);
+    for _ in 0..e / 9 {
+        let r = crate::over(n, 1_000_000_000);
         rest = rest | (r != 0);
-        left -= 9;
     }
-    let r = crate::over(l, power(left));
+    let r = crate::over(n, power(e % 9));
     rest | (r != 0)
 }

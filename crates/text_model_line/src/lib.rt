@@ -1,14 +1,13 @@
 // What a line of a MODEL file holds: a keyword, a size or a row of numbers; and how rows make a table. Places in a line count from 0.
 #![tactic(auto)]
 
-ghost use Rattle.std.specs.Prelude.{◌≡◌, ◌*◌, ◌<◌, ◌≤◌, length};
+ghost use Rattle.std.specs.Prelude.{◌≡◌, ◌*◌, ◌<◌, ◌≤◌, length, IfOk};
+ghost use Rattle.text_model_line.specs.declared.ModelError.TheVariants.{Refused};
 
 use refusal::Refusal;
-use text_decimal_read::Parsed;
-use text_words::Count;
 
 // What was expected where a line is at fault.
-#[derive(Clone, Copy)]
+#[derive(Clone, Copy, PartialEq, Eq)]
 pub enum Fault {
     Keyword,
     Once,
@@ -31,24 +30,32 @@ pub enum Fault {
     Variances,
 }
 
+// Why a model is not read: a line is at fault at a place, or the library refuses what the lines say.
 #[derive(Clone, Copy)]
-pub enum Outcome {
-    Fine,
+pub enum ModelError {
     Wrong(Fault, usize),
     Refused(Refusal),
+}
+
+impl From<Refusal> for ModelError {
+    ghost from_gives = { λ refusal error. error ≡ Refused refusal };
+
+    fn from(refusal: Refusal) -> ModelError {
+        ModelError::Refused(refusal)
+    }
 }
 
 // The numbers behind a keyword, and the place where they end.
 #[derive(Clone, Copy)]
 pub struct Row {
-    pub outcome: Outcome,
+    // an array with its count, as the parameters hold them
     pub values: [f64; 16],
     pub count: usize,
     pub end: usize,
 }
 
 // What a line is, by its first word.
-#[derive(Clone, Copy)]
+#[derive(Clone, Copy, PartialEq, Eq)]
 pub enum Kind {
     Regimes,
     Order,
@@ -56,150 +63,90 @@ pub enum Kind {
     Means,
     Ar,
     Variances,
-    Other,
 }
 
 // ---- from a line
 
-pub fn keyword(word: &[u8]) -> Kind {
-    if text_words::same(word, b"regimes") {
-        return Kind::Regimes;
-    }
-    if text_words::same(word, b"order") {
-        return Kind::Order;
-    }
-    if text_words::same(word, b"transition") {
-        return Kind::Transition;
-    }
-    if text_words::same(word, b"means") {
-        return Kind::Means;
-    }
-    if text_words::same(word, b"ar") {
-        return Kind::Ar;
-    }
-    if text_words::same(word, b"variances") {
-        return Kind::Variances;
-    }
-    Kind::Other
-}
-
-fn stopped(fault: Fault, place: usize) -> Row
-    ensures { result.count ≡ 0 }
-{
-    Row {
-        outcome: Outcome::Wrong(fault, place),
-        values: [0.0; 16],
-        count: 0,
-        end: place,
+pub fn keyword(word: &[u8]) -> Option<Kind> {
+    match word {
+        b"regimes" => Some(Kind::Regimes),
+        b"order" => Some(Kind::Order),
+        b"transition" => Some(Kind::Transition),
+        b"means" => Some(Kind::Means),
+        b"ar" => Some(Kind::Ar),
+        b"variances" => Some(Kind::Variances),
+        _ => None,
     }
 }
 
-// The row of these n numbers, where nothing but a comment follows them.
-fn no_more(line: &[u8], from: usize, n: usize, values: [f64; 16]) -> Row
-    requires { from ≤ length line.now }
-    ensures { result.count ≤ n }
-{
-    let more = text_words::word(line, from);
-    if more.start != more.end {
-        return stopped(Fault::Numbers(n), more.start);
-    }
-    Row {
-        outcome: Outcome::Fine,
-        values,
-        count: n,
-        end: more.start,
-    }
-}
-
-// The numbers from this place on, no more than `most` of them.
-fn numbers(line: &[u8], from: usize, most: usize) -> Row
+// The numbers from this place on, no more than `most` of them, where nothing but a comment follows them.
+fn numbers(line: &[u8], from: usize, most: usize) -> Result<Row, ModelError>
     requires { (from ≤ length line.now) × (most ≤ 16) }
-    ensures { result.count ≤ most }
+    ensures { IfOk result (λ row. row.count ≤ most) }
 {
     let mut values = [0.0; 16];
-    let mut count = 0;
     let mut at = from;
-    while count < most {
+    // an index, not an iterator over the values: it is also the count that is answered where the words end
+    for count in 0..most {
         let word = text_words::word(line, at);
-        let a = word.start;
-        let b = word.end;
-        if a == b {
-            return Row {
-                outcome: Outcome::Fine,
+        if word.is_empty() {
+            return Ok(Row {
                 values,
                 count,
-                end: a,
-            };
+                end: word.start,
+            });
         }
-        match text_decimal_read::read(&line[a..b]) {
-            Parsed::Wrong(_) => {
-                return stopped(Fault::Number, a);
-            }
-            Parsed::Number(x) => {
-                values[count] = x;
-            }
-        }
-        count += 1;
-        at = b;
+        let Ok(x) = text_decimal_read::read(word.of(line)) else {
+            return Err(ModelError::Wrong(Fault::Number, word.start));
+        };
+        values[count] = x;
+        at = word.end;
     }
-    no_more(line, at, most, values)
+    let more = text_words::word(line, at);
+    if !more.is_empty() {
+        return Err(ModelError::Wrong(Fault::Numbers(most), more.start));
+    }
+    Ok(Row {
+        values,
+        count: most,
+        end: more.start,
+    })
 }
 
 // The whole number from this place on, alone.
-pub fn size(line: &[u8], from: usize) -> Count
+pub fn size(line: &[u8], from: usize) -> Option<usize>
     requires { from ≤ length line.now }
 {
     let word = text_words::word(line, from);
-    let a = word.start;
-    let b = word.end;
-    let more = text_words::word(line, b);
-    if more.start != more.end {
-        return Count::Wrong;
+    if !text_words::word(line, word.end).is_empty() {
+        return None;
     }
-    text_words::whole(&line[a..b])
+    text_words::whole(word.of(line))
 }
 
 // The numbers, exactly so many.
-pub fn all_numbers(line: &[u8], from: usize, n: usize) -> Row
+pub fn all_numbers(line: &[u8], from: usize, n: usize) -> Result<[f64; 16], ModelError>
     requires { (from ≤ length line.now) × (n ≤ 16) }
 {
-    let row = numbers(line, from, n);
-    let outcome = row.outcome;
-    if let Outcome::Fine = outcome {
-        if row.count < n {
-            return stopped(Fault::Numbers(n), row.end);
-        }
+    let row = numbers(line, from, n)?;
+    if row.count < n {
+        return Err(ModelError::Wrong(Fault::Numbers(n), row.end));
     }
-    row
+    Ok(row.values)
 }
 
 // One number, or as many as regimes.
-pub fn one_or_all(line: &[u8], from: usize, n: usize) -> Row
+pub fn one_or_all(line: &[u8], from: usize, n: usize) -> Result<Row, ModelError>
     requires { (from ≤ length line.now) × (n ≤ 16) }
 {
-    let row = numbers(line, from, n);
-    let outcome = row.outcome;
-    match outcome {
-        Outcome::Fine => {
-            if (row.count == 1) | (row.count == n) {
-                return row;
-            }
-            stopped(Fault::OneOr(n), row.end)
-        }
-        Outcome::Wrong(_, _) => row,
-        Outcome::Refused(_) => row,
+    let row = numbers(line, from, n)?;
+    if row.count != 1 && row.count != n {
+        return Err(ModelError::Wrong(Fault::OneOr(n), row.end));
     }
+    Ok(row)
 }
 
 // ---- rows into tables
-
-// The place of number i of a row of n.
-fn in_table(row: usize, n: usize, i: usize) -> usize
-    requires { (row < 16) × (n ≤ 16) × (i < n) }
-    ensures { result < 16 * n }
-{
-    row * n + i
-}
 
 // How many numbers the rows up to this one hold.
 pub fn up_to(row: usize, n: usize) -> usize
@@ -208,28 +155,16 @@ pub fn up_to(row: usize, n: usize) -> usize
     (row + 1) * n
 }
 
-// Row number `row`, of n numbers.
-pub fn with_row(table: [f64; 256], row: usize, n: usize, values: [f64; 16]) -> [f64; 256]
-    requires { (row < 16) × (n ≤ 16) }
+// Row number `row`, of n numbers, in a table of 16 rows.
+pub fn with_row<const N: usize>(
+    mut table: [f64; N],
+    row: usize,
+    n: usize,
+    values: [f64; 16],
+) -> [f64; N]
+    requires { (row < 16) × (n ≤ 16) × (16 * n ≤ N) }
 {
-    let mut next = table;
-    let mut i = 0;
-    while i < n {
-        next[in_table(row, n, i)] = values[i];
-        i += 1;
-    }
-    next
-}
-
-// Block number `block`, of p numbers.
-pub fn with_block(table: [f64; 112], block: usize, p: usize, values: [f64; 16]) -> [f64; 112]
-    requires { (block < 16) × (p ≤ 7) }
-{
-    let mut next = table;
-    let mut i = 0;
-    while i < p {
-        next[in_table(block, p, i)] = values[i];
-        i += 1;
-    }
-    next
+    let all = &mut table[..];
+    all[row * n..(row + 1) * n].copy_from_slice(&values[..n]);
+    table
 }

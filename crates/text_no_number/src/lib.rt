@@ -1,9 +1,9 @@
 // Why a text is no number, for a message that a person can act on.
 #![tactic(auto)]
 
-use text_decimal_read::Parsed;
+ghost use Rattle.std.specs.Prelude.{◌≤◌, length, IsTrue};
 
-#[derive(Clone, Copy)]
+#[derive(Clone, Copy, PartialEq, Eq)]
 pub enum Why {
     // nothing stands there
     Empty,
@@ -28,177 +28,88 @@ pub enum Why {
 
 // ---- words for a missing reading
 
-// The letter in lower case.
-fn small(c: u8) -> u8 {
-    match c {
-        b'A'..=b'Z' => c + 32,
-        _ => c,
-    }
-}
-
-// Whether a is b, whatever the case of a's letters.
-fn spells(a: &[u8], b: &[u8]) -> bool {
-    if a.len() != b.len() {
-        return false;
-    }
-    let mut i = 0;
-    while i < a.len() {
-        if small(a[i]) != b[i] {
-            return false;
-        }
-        i += 1;
-    }
-    true
+// Whether the text is one of the words, whatever the case of its letters.
+fn is_one_of(text: &[u8], words: &[&str]) -> bool {
+    words
+        .iter()
+        .any(|word| text.eq_ignore_ascii_case(word.as_bytes()))
 }
 
 // What people and programs write where a reading is missing.
 pub fn is_missing(text: &[u8]) -> bool {
-    if text.len() == 0 {
-        return true;
-    }
-    if spells(text, b"na") {
-        return true;
-    }
-    if spells(text, b"n/a") {
-        return true;
-    }
-    if spells(text, b"null") {
-        return true;
-    }
-    if spells(text, b"none") {
-        return true;
-    }
-    if spells(text, b"nan") {
-        return true;
-    }
-    if spells(text, b"inf") {
-        return true;
-    }
-    if spells(text, b"-") {
-        return true;
-    }
-    if spells(text, b"?") {
-        return true;
-    }
-    is_spreadsheet_word(text)
+    text.is_empty()
+        || is_one_of(text, &["na", "n/a", "null", "none", "nan", "inf", "-", "?"])
+        || is_spreadsheet_word(text)
 }
 
 // What a spreadsheet writes for a cell without a value. Each begins with `#`, which elsewhere begins a comment.
 pub fn is_spreadsheet_word(text: &[u8]) -> bool {
-    if spells(text, b"#n/a") {
-        return true;
-    }
-    if spells(text, b"#num!") {
-        return true;
-    }
-    if spells(text, b"#div/0!") {
-        return true;
-    }
-    if spells(text, b"#ref!") {
-        return true;
-    }
-    if spells(text, b"#value!") {
-        return true;
-    }
-    if spells(text, b"#name?") {
-        return true;
-    }
-    spells(text, b"#null!")
+    is_one_of(
+        text,
+        &[
+            "#n/a", "#num!", "#div/0!", "#ref!", "#value!", "#name?", "#null!",
+        ],
+    )
 }
 
 // ---- the reason
 
 // Whether the text begins with a dash of three bytes: U+2212, the minus sign, or U+2010 to U+2015, hyphen to bar.
-fn is_dashed(text: &[u8]) -> bool {
-    if text.len() < 3 {
-        return false;
-    }
-    if text[0] != 0xE2 {
-        return false;
-    }
-    let b = text[1];
-    let c = text[2];
-    ((b == 0x88) & (c == 0x92)) | ((b == 0x80) & (c >= 0x90) & (c <= 0x95))
+fn is_dashed(text: &[u8]) -> bool
+    ensures { IsTrue result → 3 ≤ length text.now }
+{
+    matches!(text, [0xE2, 0x88, 0x92, ..] | [0xE2, 0x80, 0x90..=0x95, ..])
 }
 
 // Whether the text begins as UTF-16 does.
 fn is_wide(text: &[u8]) -> bool {
-    if text.len() < 2 {
-        return false;
-    }
-    let a = text[0];
-    let b = text[1];
-    ((a == 0xFF) & (b == 0xFE)) | ((a == 0xFE) & (b == 0xFF)) | (a == 0) | (b == 0)
+    matches!(
+        text,
+        [0xFF, 0xFE, ..] | [0xFE, 0xFF, ..] | [0, _, ..] | [_, 0, ..]
+    )
 }
 
 // Whether one of the first n bytes marks an exponent.
 fn has_mark(text: &[u8], n: usize) -> bool {
-    let mut i = 0;
-    while i < text.len() {
-        if i >= n {
-            return false;
-        }
-        if (text[i] == b'e') | (text[i] == b'E') {
-            return true;
-        }
-        i += 1;
-    }
-    false
-}
-
-fn is_digit(c: u8) -> bool {
-    (c >= b'0') & (c <= b'9')
+    text.iter().take(n).any(|c| matches!(c, b'e' | b'E'))
 }
 
 // A digit is at fault where there are too many, or where they lead too far.
 fn too_far(text: &[u8], at: usize) -> Why {
     if has_mark(text, at) {
-        return Why::Exponent;
+        Why::Exponent
+    } else {
+        Why::Digits
     }
-    Why::Digits
 }
 
 // What stands before the byte at fault is a number, or it is none.
 fn after(text: &[u8], at: usize) -> Why {
-    if at > text.len() {
-        return Why::Other;
-    }
-    match text_decimal_read::read(&text[..at]) {
-        Parsed::Number(_) => Why::More,
-        Parsed::Wrong(_) => Why::Other,
+    match text.get(..at).map(text_decimal_read::read) {
+        Some(Ok(_)) => Why::More,
+        _ => Why::Other,
     }
 }
 
 // The byte at this place cannot stand there.
 fn at_fault(text: &[u8], at: usize) -> Why {
-    if at >= text.len() {
-        return Why::Other;
+    match text.get(at) {
+        None => Why::Other,
+        Some(b',') => Why::Comma,
+        Some(b'0'..=b'9') if is_numeric(text) => too_far(text, at),
+        Some(_) if text.contains(&b',') || text.contains(&b';') => Why::Cells,
+        Some(_) => after(text, at),
     }
-    let c = text[at];
-    if c == b',' {
-        return Why::Comma;
-    }
-    if is_digit(c) & is_numeric(text) {
-        return too_far(text, at);
-    }
-    if text_words::has(text, b',') | text_words::has(text, b';') {
-        return Why::Cells;
-    }
-    after(text, at)
 }
 
 // Whether the text begins as a number with digits does.
 fn is_numeric(text: &[u8]) -> bool {
-    if text.len() == 0 {
-        return false;
-    }
-    let c = text[0];
-    is_digit(c) | (c == b'+') | (c == b'-') | (c == b'.')
+    matches!(text, [b'0'..=b'9' | b'+' | b'-' | b'.', ..])
 }
 
 // Why the text, which is no number, is none.
 pub fn reason(text: &[u8]) -> Why {
-    if text.len() == 0 {
+    if text.is_empty() {
         return Why::Empty;
     }
     if is_missing(text) {
@@ -211,7 +122,7 @@ pub fn reason(text: &[u8]) -> Why {
         return Why::Minus;
     }
     match text_decimal_read::read(text) {
-        Parsed::Number(_) => Why::Other,
-        Parsed::Wrong(i) => at_fault(text, i),
+        Ok(_) => Why::Other,
+        Err(i) => at_fault(text, i),
     }
 }

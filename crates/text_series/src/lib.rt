@@ -4,71 +4,64 @@
 
 ghost use Rattle.std.specs.Prelude.{◌≤◌, length};
 
-use text_decimal_read::Parsed;
+use text_words::Span;
 
-// What a line says.
+// What a line says. A word is said by its place, so that the line may be written over.
 #[derive(Clone, Copy)]
 pub enum Item {
     Reading(f64),
     Blank,
     Comment,
-    // a comment that stands for a missing reading, from this place to that
-    Missing(usize, usize),
-    // what stands from this place to that is no number
-    NoNumber(usize, usize),
+    // a comment whose first word stands for a missing reading
+    Missing(Span),
+    // a word that is no number
+    NoNumber(Span),
     // a second word begins here
     Second(usize),
 }
 
 // The line's word is the reading, and it is the only one.
-fn alone(line: &[u8], start: usize, end: usize) -> Item
-    requires { (start ≤ end) × (end ≤ length line.now) }
+fn alone(line: &[u8], word: Span) -> Item
+    requires { word.end ≤ length line.now }
 {
-    let more = text_words::word(line, end);
-    if more.start != more.end {
+    let more = text_words::word(line, word.end);
+    if !more.is_empty() {
         return Item::Second(more.start);
     }
-    match text_decimal_read::read(&line[start..end]) {
-        Parsed::Number(x) => Item::Reading(x),
-        Parsed::Wrong(_) => Item::NoNumber(start, end),
+    let text = word.of(line);
+    match text_decimal_read::read(text) {
+        Ok(x) => Item::Reading(x),
+        Err(_) => Item::NoNumber(word),
     }
 }
 
-// The end of a comment's first word.
-fn comment_word(line: &[u8], start: usize) -> usize
-    requires { start ≤ length line.now }
-    ensures { (start ≤ result) × (result ≤ length line.now) }
-{
-    let mut i = start;
-    while i < line.len() {
-        let c = line[i];
-        if (c == b' ') | (c == b'\t') | (c == b'\r') {
-            return i;
-        }
-        i += 1;
-    }
-    i
+// A comment's first word.
+fn comment_word(comment: &[u8]) -> &[u8] {
+    let n = comment
+        .iter()
+        .take_while(|c| !matches!(**c, b' ' | b'\t' | b'\r'))
+        .count();
+    &comment[..n]
 }
 
 fn comment(line: &[u8], start: usize) -> Item
     requires { start ≤ length line.now }
 {
-    let end = comment_word(line, start);
-    if text_no_number::is_spreadsheet_word(&line[start..end]) {
-        return Item::Missing(start, end);
+    let word = comment_word(&line[start..]);
+    if text_no_number::is_spreadsheet_word(word) {
+        Item::Missing(text_words::part(line, start, start.saturating_add(word.len())))
+    } else {
+        Item::Comment
     }
-    Item::Comment
 }
 
 pub fn read(line: &[u8]) -> Item {
     let word = text_words::word(line, 0);
-    let a = word.start;
-    let b = word.end;
-    if a == line.len() {
+    if word.start == line.len() {
         return Item::Blank;
     }
-    if a == b {
-        return comment(line, a);
+    if word.is_empty() {
+        return comment(line, word.start);
     }
-    alone(line, a, b)
+    alone(line, word)
 }

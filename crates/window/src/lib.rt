@@ -6,6 +6,10 @@ ghost use Rattle.window.specs.Windows.{label, labels, number, predecessor, succe
 ghost use Rattle.window.specs.Shape.{WindowNumber};
 ghost use Rattle.window.specs.Time.{time_of};
 
+pub mod sizes;
+
+pub use sizes::Sizes;
+
 // The number of a row of results.
 #[derive(Clone, Copy)]
 pub struct Row(pub usize);
@@ -29,10 +33,8 @@ pub fn label(a: usize, l: usize, k: usize, order: usize) -> usize
     ensures { result ≡ label (labels k (suc order) a) l }
 {
     let mut rest = a;
-    let mut i = 0;
-    while i < l {
+    for _ in 0..l {
         rest = rest / k;
-        i += 1;
     }
     rest % k
 }

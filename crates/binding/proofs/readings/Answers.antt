@@ -6,8 +6,7 @@ use lib.Ieee.{Float}
 use Rattle.number.specs.Table.{◌!◌}
 use Rattle.number.specs.Tests.{holds, first_not}
 use Rattle.number.specs.declared.Test.TheVariants.{Finite}
-use Rattle.refusal.specs.Checks.{each}
-use Rattle.refusal.specs.declared.Check.TheVariants.{Passed, Failed}
+use Rattle.refusal.specs.Checks.{Passed, Failed, each}
 use Rattle.refusal.specs.declared.Refusal.TheVariants.{Reading}
 use Rattle.refusal.proofs.Each.{each_first}
 use Rattle.binding.specs.Binding.{reading_check, readings_check}

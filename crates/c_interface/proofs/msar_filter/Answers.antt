@@ -4,4 +4,4 @@ use Rattle.c_interface.proofs.msar_filter.Goals as goal
 
 pub returns : goal.returns
 returns c =
-    leaves (rw c.params_of-q.ensures at c.filter-answer.ensures) c.spell.ensures
+    leaves (rw c.params_of-q.ensures at c.filter-answer.ensures) c.spell_loglik.ensures

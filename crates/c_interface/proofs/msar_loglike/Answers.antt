@@ -4,4 +4,4 @@ use Rattle.c_interface.proofs.msar_loglike.Goals as goal
 
 pub returns : goal.returns
 returns c =
-    leaves (rw c.params_of-q.ensures at c.loglike-answer.ensures) c.spell.ensures
+    leaves (rw c.params_of-q.ensures at c.loglike-answer.ensures) c.spell_loglik.ensures

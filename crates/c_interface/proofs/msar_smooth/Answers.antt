@@ -4,4 +4,4 @@ use Rattle.c_interface.proofs.msar_smooth.Goals as goal
 
 pub returns : goal.returns
 returns c =
-    leaves (rw c.params_of-q.ensures at c.smooth-answer.ensures) c.spell.ensures
+    leaves (rw c.params_of-q.ensures at c.smooth-answer.ensures) c.spell_loglik.ensures

@@ -1,53 +1,92 @@
 -- `loglike` meets its contract: refused with nothing touched, or what its run leaves.
-use Prim.Native.Nat.{◌≤◌}
-use mathlib.Core.Path.{◌≡◌, sym, subst, ◌∙◌}
-use lib.ListN.{length}
-use Rattle.number.specs.Number.{zero⁺}
-use Rattle.refusal.specs.Checks.{◌before◌}
-use Rattle.refusal.specs.declared.Check.{Check}
-use Rattle.refusal.specs.declared.Check.TheVariants.{Passed}
+use Rattle.std.specs.Prelude.{Ok, Err}
+use Prim.Native.Nat.{ℕ, ◌+◌, ◌*◌}
+use mathlib.Core.Path.{◌≡◌, ap, ◌∙◌}
+use native.Mathlib.Omega.{arith}
+use borrow.Author.Rules.{rules}
+use Rattle.refusal.specs.Checks.{Passed, ◌before◌}
 use Rattle.refusal.proofs.Checks.{both}
-use Rattle.binding.specs.Binding.{admitted_check, rule_check}
-use Rattle.binding.proofs.Passed.{small, rule_known, admits_by}
-use Rattle.calls.proofs.Admitted.{filter_need_is, work_checked, Admitted, is_admitted, long_enough}
-use Rattle.calls.proofs.Outcomes.{loglike_refused, loglike_ran}
+use Rattle.binding.specs.Binding.{bound_of, rule_check, params_check, filter_need}
+use Rattle.binding.proofs.Passed.{small, rule_known}
 use Rattle.calls.specs.Calls.{loglike_memory}
-use Rattle.calls.proofs.loglike.Goals.{After-first_of-2}
+use Rattle.calls.proofs.Admitted.{series_refused, memory_refused, asked_refused, asked_passed, filter_need_is, work_checked, Admitted, is_admitted, long_enough}
+use Rattle.calls.proofs.Outcomes.{loglike_refused, loglike_ran}
+use Rattle.calls.proofs.loglike.Goals.{In_ok-b, After-filter_need-need, In_ok-asked, In_ok-memory}
 use Rattle.calls.proofs.loglike.Goals as goal
 
+bound : (c : In_ok-b) → bound_of c.args.s c.args.y.now ≡ Ok c.in_ok-b.b
+bound c = search rules
+
+-- where the need of memory is known
+module _ (c : After-filter_need-need) where
+  series : bound_of c.args.s c.args.y.now ≡ Ok c.in_ok-b.b
+  series = search rules
+
+  needed : c.filter_need-need.result ≡ filter_need c.args.s c.args.y.now
+  needed = filter_need_is c.args.s c.args.y.now series c.filter_need-need.ensures
+
+-- where memory passed
+module _ (c : In_ok-memory) where
+  series-later : bound_of c.args.s c.args.y.now ≡ Ok c.in_ok-b.b
+  series-later = search rules
+
+  own : loglike_memory c.args.s c.args.y.now c.args.work.now ≡ Passed
+  own = work_checked c.args.s c.args.y.now series-later (filter_need_is c.args.s c.args.y.now series-later c.filter_need-need.ensures) _ (search rules)
+
+-- where everything passed
+module _ (c : In_ok-asked) where
+  series-last : bound_of c.args.s c.args.y.now ≡ Ok c.in_ok-b.b
+  series-last = search rules
+
+  asked : (rule_check c.args.rule before params_check c.args.s c.args.q) ≡ Passed
+  asked = search rules
+
+  memory-last : loglike_memory c.args.s c.args.y.now c.args.work.now ≡ Passed
+  memory-last = work_checked c.args.s c.args.y.now series-last (filter_need_is c.args.s c.args.y.now series-last c.filter_need-need.ensures) _ (search rules)
+
+  admitted : Admitted c.args.s c.args.y.now series-last c.args.q
+  admitted = is_admitted c.args.s c.args.y.now series-last c.args.q (both (rule_check c.args.rule) asked).1
+
+pub returns-in_err-b : goal.returns-in_err-b
+returns-in_err-b c =
+    let s = c.args in
+    let given : c.from_residual.result ≡ Err c.in_err-b.field-0.0 = search rules in
+    rw given (loglike_refused s.s s.y.now s.q s.rule s.work.now (series_refused s.s s.y.now s.q _ (search rules)))
+
 pub filter_need-need-requires : goal.filter_need-need-requires
-filter_need-need-requires c = (small _ _ c.bind-b.ensures).work
+filter_need-need-requires c = (small c.args.s c.args.y.now (bound (goal.at.filter_need-need-requires c).In_ok-b)).work
 
--- after the checks
-module _ (c : After-first_of-2) where
-  abbrev own : Check
-  own = loglike_memory c.args.s c.args.y.now c.args.work.now
+pub returns-in_err-memory : goal.returns-in_err-memory
+returns-in_err-memory c =
+    let s = c.args in
+    let at = (goal.at.returns-in_err-memory c).After-filter_need-need in
+    let given : c.from_residual-in_err-memory.result ≡ Err c.in_err-memory.field-0.0 = search rules in
+    rw given (loglike_refused s.s s.y.now s.q s.rule s.work.now (memory_refused s.s s.y.now (series at) s.q s.rule _ (work_checked s.s s.y.now (series at) (needed at) _ (search rules))))
 
-  checked : c.first_of-2.result ≡ admitted_check c.args.s c.args.y.now (own before rule_check c.args.rule) c.args.q
-  checked =
-      admits_by c.args.s c.args.y.now c.bind-b.ensures c.args.rule c.args.q own
-      (work_checked c.args.s c.args.y.now c.bind-b.ensures (filter_need_is c.args.s c.args.y.now c.bind-b.ensures c.filter_need-need.ensures) _ c.memory-own.ensures) c.asked-given.ensures
-      (rw (← c.first_of.ensures) c.first_of-2.ensures)
+pub returns-in_err-asked : goal.returns-in_err-asked
+returns-in_err-asked c =
+    let s = c.args in
+    let at = (goal.at.returns-in_err-asked c).In_ok-memory in
+    let given : c.from_residual-in_err-asked.result ≡ Err c.in_err-asked.field-0.0 = search rules in
+    rw given (loglike_refused s.s s.y.now s.q s.rule s.work.now (asked_refused s.s s.y.now (series-later at) s.q s.rule _ (own at) (search rules)))
 
-  admitted : c.first_of-2.result ≡ Passed → Admitted c.args.s c.args.y.now c.bind-b.ensures c.args.q (own before rule_check c.args.rule)
-  admitted d = is_admitted c.args.s c.args.y.now c.bind-b.ensures c.args.q (own before rule_check c.args.rule) (sym checked ∙ d)
+pub of-sizes-requires : goal.of-sizes-requires
+of-sizes-requires c = let a = admitted (goal.at.of-sizes-requires c).In_ok-asked in record { shape = a.shape; windows_value = a.windows_are_of }
 
 pub rule_of-requires : goal.rule_of-requires
-rule_of-requires c = rule_known _ (both (own (goal.at.rule_of-requires c).After-first_of-2) (admitted (goal.at.rule_of-requires c).After-first_of-2 c.in-Passed.is).own_passed).1
+rule_of-requires c = rule_known _ (both (rule_check c.args.rule) (asked (goal.at.rule_of-requires c).In_ok-asked)).0
 
-pub run_loglike-requires : goal.run_loglike-requires
-run_loglike-requires c =
-    let a = admitted (goal.at.run_loglike-requires c).After-first_of-2 c.in-Passed.is in
-    record { shape = a.shape; m_value = (a.windows_of_lem, a.power_is, a.rows_of, a.short, subst (λ n. n ≤ length c.args.work.now) (sym a.filter_need_lem) (long_enough _ _ (both (own (goal.at.run_loglike-requires c).After-first_of-2) a.own_passed).0)) }
+pub run_loglike-requires-clause-rows : goal.run_loglike-requires-clause-rows
+run_loglike-requires-clause-rows c =
+    let at = (goal.at.run_loglike-requires-clause-rows c).In_ok-asked in
+    let a = admitted at in
+    (a.rows_of, a.short, rw c.of-sizes.ensures.powers.1 (omega (arith, a.filter_need_lem, long_enough _ _ (memory-last at))))
 
-pub returns-in-Failed : goal.returns-in-Failed
-returns-in-Failed c =
+pub returns : goal.returns
+returns c =
     let s = c.args in
-    loglike_refused s.s s.y.now s.q s.rule s.work.now (c.refused.ensures zero⁺) (sym (checked (goal.at.returns-in-Failed c).After-first_of-2) ∙ c.in-Failed.is)
-
-pub returns-in-Passed : goal.returns-in-Passed
-returns-in-Passed c =
-    let s = c.args in
-    let d = c.in-Passed.is in
+    let at = (goal.at.returns c).In_ok-asked in
     let ran = c.run_loglike.ensures in
-    loglike_ran s.s s.y.now s.q s.rule s.work.now c.rule_of.ensures ran.answer ran.work (admitted (goal.at.returns-in-Passed c).After-first_of-2 d).filter_need_lem (sym (checked (goal.at.returns-in-Passed c).After-first_of-2) ∙ d)
+    loglike_ran s.s s.y.now s.q s.rule s.work.now c.rule_of.ensures ran.answer ran.work
+    (ap (λ (x : ℕ). c.in_ok-b.b.rows * x + 256) c.of-sizes.ensures.powers.1 ∙ (admitted at).filter_need_lem)
+    (asked_passed s.s s.y.now (series-last at) s.q s.rule _ (memory-last at) (asked at))

@@ -4,6 +4,3 @@ use Rattle.calls.proofs.memory.Goals as goal
 
 pub overflow_mul-b : goal.overflow_mul-b
 overflow_mul-b c = omega (arith, c.requires)
-
-pub returns : goal.returns
-returns c = rw (← c.memory-at_work.ensures, ← c.memory-at_table.ensures) c.first_of.ensures

@@ -1,6 +1,6 @@
 -- `cases::p10`: P10: what the functions answer is the example's.
 use mathlib.Core.Path.{ap, ◌∙◌}
-use Rattle.refusal.specs.declared.Check.{Check}
+use Rattle.refusal.specs.Checks.{Check}
 use Rattle.params.specs.Checks.{parameter_check}
 use Rattle.cases.specs.Cases.{fails}
 use Rattle.cases.proofs.Values.{p10}

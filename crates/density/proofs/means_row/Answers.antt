@@ -1,19 +1,14 @@
 -- The means of a row: the labels' own, then the lags.
 use Prim.Native.Nat.{◌<◌}
-use mathlib.Core.Path.{◌∙◌}
 use native.Mathlib.Omega.{arith}
-use Rattle.number.proofs.Table.{fill_at_long}
 use Rattle.density.proofs.Means.{lags_on, means_are}
 use Rattle.density.proofs.means_row.Goals as goal
-
-pub add_lags-requires : goal.add_lags-requires
-add_lags-requires c =
-    let pre = c.requires in
-    record { shape = pre.shape; order_le_t = (pre.order_le_t.0, pre.order_le_t.1, fill_at_long 0 _ _ _ c.start.ensures (omega (arith, pre.shape.high)) ∙ pre.order_le_t.2) }
 
 pub returns : goal.returns
 returns c q parts =
     let a = c.args in
-    let pos : 0 < a.k = omega (arith, c.requires.shape.low) in
-    let row = lags_on _ a.k a.order a.phis.now a.means.now a.y.now a.t.0 _ a.row.now pos c.start.ensures c.add_lags.ensures in
-    means_are parts a.y.now a.t a.row.now pos row
+    let sizes = a.sizes in
+    let pos : 0 < sizes.k = omega (arith, sizes.shape.low) in
+    let added = rw sizes.windows_value at c.add_lags.ensures in
+    let row = lags_on _ sizes.k sizes.order a.phis.now a.means.now a.y.now a.t.0 _ a.row.now pos c.copy.ensures added in
+    rw sizes.windows_value (means_are parts a.y.now a.t a.row.now pos row)

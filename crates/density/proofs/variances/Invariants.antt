@@ -1,5 +1,4 @@
 -- The variances by label, label by label.
-use Prim.Native.Nat.{◌≤◌}
 use mathlib.Core.Path.{◌≡◌}
 use lib.ListN.{replicate}
 use Rattle.number.specs.Number.{zero⁺}
@@ -8,4 +7,4 @@ use Rattle.params.specs.Parameters.{block_of}
 use Rattle.density.proofs.variances.Given as goal
 
 abbrev pub invariant-loop-s : goal.invariant-loop-s
-invariant-loop-s l = (l.s ≤ l.k) × (l.row ≡ fill_at 0 (λ i. l.own ! block_of l.count i) l.s (replicate 16 zero⁺))
+invariant-loop-s l = l.row ≡ fill_at 0 (λ i. l.own ! block_of l.count i) l.s (replicate 16 zero⁺)

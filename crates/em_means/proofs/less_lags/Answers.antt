@@ -1,34 +1,27 @@
-use Prim.Native.Nat.{◌+◌, ◌*◌, ◌<◌}
-use mathlib.Core.Path.{◌≡◌, refl}
+use mathlib.Core.Path.{◌≡◌, refl, ap}
 use native.Mathlib.Omega.{arith}
-use Rattle.em_means.specs.Steps.{less_lags_to}
+use Rattle.window.specs.declared.Time.{Time}
+use Rattle.em_means.specs.Steps.{less_lags_to, less_lags_at}
 use Rattle.em_means.proofs.Lags.{phi_within, lag_less}
 use Rattle.em_means.proofs.less_lags.Goals.{In-loop-l}
 use Rattle.em_means.proofs.less_lags.Goals as goal
 
--- the coefficient's place
-place_in : (c : In-loop-l) → c.loop-l.l * c.args.k + c.args.s < 112
-place_in c =
-    phi_within _ _ _ _ c.loop-l-test.true c.requires.2 c.requires.0 c.requires.1
-
 pub loop-l-init : goal.loop-l-init
 unfolding less_lags_to
-loop-l-init c = (omega arith, refl)
-
-pub overflow_mul-d : goal.overflow_mul-d
-overflow_mul-d c = omega (arith, place_in c)
-
-pub overflow_add-d : goal.overflow_add-d
-overflow_add-d c = omega (arith, place_in c)
+loop-l-init c = refl
 
 pub offset_bounds-phis-l : goal.offset_bounds-phis-l
-offset_bounds-phis-l c = omega (arith, place_in c)
+offset_bounds-phis-l c = omega (arith, phi_within c.args.smoothed.now.sizes _ _ c.loop-l-test.true c.requires.0)
 
 pub bounds-phis-l : goal.bounds-phis-l
-bounds-phis-l c = place_in c
+bounds-phis-l c = phi_within c.args.smoothed.now.sizes _ _ c.loop-l-test.true c.requires.0
 
 pub loop-l-preserved : goal.loop-l-preserved
-loop-l-preserved c = (omega arith, lag_less _ _ _ _ _ _ c.loop-l.invariant.1)
+loop-l-preserved c = lag_less _ _ _ _ _ _ c.loop-l.invariant
 
 pub returns : goal.returns
-returns c = let e : c.loop-l.l ≡ c.args.order = omega arith in rw e at c.loop-l.invariant.1
+unfolding less_lags_at
+returns c =
+    let all : c.loop-l.l ≡ c.args.smoothed.now.sizes.order = omega arith in
+    let time = ap (λ (t : Time). t.0) c.time_of-at.ensures in
+    rw (time, all) at c.loop-l.invariant

@@ -1,8 +1,7 @@
 -- The largest place of the diagonal, row by row.
-use Prim.Native.Nat.{◌≤◌}
 use mathlib.Core.Path.{◌≡◌}
 use Rattle.em_ridge.specs.Ridge.{largest_to}
 use Rattle.em_ridge.proofs.largest.Given as goal
 
 abbrev pub invariant-loop-i : goal.invariant-loop-i
-invariant-loop-i l = (l.i ≤ l.n) × (l.scale ≡ largest_to l.n l.a l.i)
+invariant-loop-i l = l.scale ≡ largest_to l.n l.a l.i

@@ -4,10 +4,10 @@ use Rattle.number.proofs.Table.{fill_at_none, fill_more}
 use Rattle.em_variances.proofs.start.Goals as goal
 
 pub loop-s-init : goal.loop-s-init
-loop-s-init c = (omega arith, fill_at_none 0 _ _)
+loop-s-init c = fill_at_none 0 _ _
 
 pub loop-s-preserved : goal.loop-s-preserved
-loop-s-preserved c = (omega arith, fill_more _ _ _ c.loop-s.invariant.1 refl (omega arith))
+loop-s-preserved c = fill_more _ _ _ c.loop-s.invariant refl (omega arith)
 
 pub returns : goal.returns
-returns c = let e : c.loop-s.s ≡ c.args.k = omega arith in rw e at c.loop-s.invariant.1
+returns c = let e : c.loop-s.s ≡ c.args.k = omega arith in rw e at c.loop-s.invariant

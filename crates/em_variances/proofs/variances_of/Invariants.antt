@@ -1,9 +1,8 @@
 -- The variances anew, one after another.
-use Prim.Native.Nat.{◌≤◌}
 use mathlib.Core.Path.{◌≡◌}
 use Rattle.number.specs.Table.{◌!◌, fill_at}
 use Rattle.em_variances.specs.Steps.{variance_of}
 use Rattle.em_variances.proofs.variances_of.Given as goal
 
 abbrev pub invariant-loop-b : goal.invariant-loop-b
-invariant-loop-b l = (l.b ≤ l.count) × (l.old ≡ fill_at 0 (λ x. variance_of l.floor (l.squares ! x) (l.weights ! x) (l.initial.old ! x)) l.b l.initial.old)
+invariant-loop-b l = l.old ≡ fill_at 0 (λ x. variance_of l.floor (l.sums.squares ! x) (l.sums.weights ! x) (l.initial.old ! x)) l.b l.initial.old

@@ -1,45 +1,68 @@
 -- `run_fit` meets its contract: the refusal of the passes, or what the closing pass says at the parameters reached.
+use Rattle.std.specs.Prelude.{Ok, Err}
 use Prim.Native.Nat.{◌*◌}
-use mathlib.Core.Bool.{false}
+use mathlib.Core.Path.{◌≡◌, sym, ap, ◌∙◌}
 use native.Mathlib.Omega.{arith}
-use Rattle.number.specs.Number.{zero⁺}
-use Rattle.calls.proofs.Runs.{all_cleared, cells_small}
-use Rattle.fit.proofs.Ends.{closing_is, closing_ready, end_good, end_passed, end_refused, table_passed, table_refused}
+use borrow.Author.Rules.{rules}
+use Rattle.em_step.proofs.Kept.{Good}
+use Rattle.calls.proofs.Runs.{all_cleared}
+use Rattle.fit.specs.declared.Fitted.{Fitted}
+use Rattle.fit.specs.Verdicts.{end_of}
+use Rattle.fit.proofs.Ends.{closing_refused, closing_answered, end_good, end_passed, end_refused, table_passed, table_refused, table_fits}
+use Rattle.fit.proofs.run_fit.Goals.{In-Ok}
 use Rattle.fit.proofs.run_fit.Goals as goal
 
-pub passes-s-requires : goal.passes-s-requires
-passes-s-requires c = let h = c.requires in record { ready = h.ready; m_value = (h.m_value.0, h.m_value.1, h.m_value.2, omega (arith, h.m_value.3)) }
+-- where the passes were not refused
+module _ (c : In-Ok) where
+  end : end_of c.args.max_iter c.passes.new.state.course ≡ Ok c.in-Ok.end
+  end = sym c.end_of.ensures ∙ c.in-Ok.is
 
-pub overflow_mul-n : goal.overflow_mul-n
-overflow_mul-n c = omega (arith, cells_small c.args.start _ _ _ c.requires.ready.shape.few c.requires.m_value.0 c.requires.ready.rows_are c.requires.ready.short)
+  good : Good c.passes.new.state.params c.args.start.now
+  good = end_good _ _ _ c.args.start.now c.passes.ensures.state end c.requires.rows.3
 
-pub overflow_mul-n-in-Failed : goal.overflow_mul-n-in-Failed
-overflow_mul-n-in-Failed c = omega (arith, cells_small c.args.start _ _ _ c.requires.ready.shape.few c.requires.m_value.0 c.requires.ready.rows_are c.requires.ready.short)
+pub close-requires : goal.close-requires
+close-requires c =
+    let g = (good (goal.at.close-requires c).In-Ok).alike in
+    let h = c.requires.rows in
+    record {
+      sizes = (c.requires.ready.labels ∙ sym g.labels, c.requires.ready.order ∙ sym g.order);
+      rows = (omega (arith, h.0, g.order), h.1, omega (arith, h.4, c.passes.ensures.rest.0), table_fits _ g h.5, h.2);
+    }
 
-pub clear-requires : goal.clear-requires
-clear-requires c = omega (arith, c.requires.m_value.3, c.passes-s.ensures.rest.0)
+pub answered-requires : goal.answered-requires
+answered-requires c = (good (goal.at.answered-requires c).In-Ok).checked
 
-pub close-answer-requires : goal.close-answer-requires
-close-answer-requires c =
-    let did = c.passes-s.ensures in
-    let good = end_good _ _ _ c.args.start did.state c.end_of-end.ensures c.requires.m_value.2 c.in-Passed.is in
-    let r = closing_ready good.alike c.requires.ready c.requires.m_value.0 c.requires.m_value.3 c.requires.m_value.4 did.rest.0 in
-    record { shape = r.shape; m_value = (r.windows_are, r.power_is, r.rows_are, r.short, r.work_fits, r.table_fits, c.requires.m_value.1) }
+pub returns-in_err-loglik-in-Ok : goal.returns-in_err-loglik-in-Ok
+returns-in_err-loglik-in-Ok c =
+    let at = (goal.at.returns-in_err-loglik-in-Ok c).In-Ok in
+    let did = c.passes.ensures in
+    let closing = c.close.ensures in
+    let given : c.from_residual.result ≡ Err c.in_err-loglik-in-Ok.field-0.0 = search rules in
+    let found : c.close.result ≡ Err c.in_err-loglik-in-Ok.field-0.0 = search rules in
+    record {
+      answer = given ∙ end_passed _ _ _ c.args.start.now did.state (end at) (closing_refused _ c.passes.new.state.params _ _ closing.answer found);
+      work = all_cleared (2 * (c.args.n * c.args.sizes.windows)) (2 * (c.args.n * c.args.sizes.windows)) _ _ did.rest.1 closing.work (omega arith);
+      smoothed = table_passed _ _ _ c.args.start.now did.state (end at) _ closing.smoothed;
+    }
 
-pub ended-requires : goal.ended-requires
-ended-requires c =
-    (end_good _ _ _ c.args.start c.passes-s.ensures.state c.end_of-end.ensures c.requires.m_value.2 c.in-Passed.is).checked
+pub returns-in_ok-loglik-in-Ok : goal.returns-in_ok-loglik-in-Ok
+returns-in_ok-loglik-in-Ok c =
+    let at = (goal.at.returns-in_ok-loglik-in-Ok c).In-Ok in
+    let did = c.passes.ensures in
+    let closing = c.close.ensures in
+    let found : c.close.result ≡ Ok c.in_ok-loglik-in-Ok.loglik = search rules in
+    record {
+      answer = ap (λ (f : Fitted). Ok f) c.answered.ensures ∙ end_passed _ _ _ c.args.start.now did.state (end at) (closing_answered _ c.passes.new.state.params _ _ closing.answer found);
+      work = all_cleared (2 * (c.args.n * c.args.sizes.windows)) (2 * (c.args.n * c.args.sizes.windows)) _ _ did.rest.1 closing.work (omega arith);
+      smoothed = table_passed _ _ _ c.args.start.now did.state (end at) _ closing.smoothed;
+    }
 
-pub returns-in-Failed : goal.returns-in-Failed
-returns-in-Failed c =
-    let start = c.args.start in
-    let did = c.passes-s.ensures in
-    let gone = c.in-Failed.is in
-    record { answer = end_refused _ _ _ start did.state c.end_of-end.ensures gone (c.refused.ensures start zero⁺ 0 false); work = all_cleared (2 * (c.args.n * c.args.m)) (2 * (c.args.n * c.args.m)) _ _ did.rest.1 c.clear.ensures (omega arith); smoothed = table_refused _ _ _ start did.state c.end_of-end.ensures _ gone }
-
-pub returns-in-Passed : goal.returns-in-Passed
-returns-in-Passed c =
-    let start = c.args.start in
-    let did = c.passes-s.ensures in
-    let passed = c.in-Passed.is in
-    let closing = c.close-answer.ensures in record { answer = end_passed _ _ _ start did.state c.end_of-end.ensures passed (closing_is _ c.passes-s.result.params _ _ closing.answer c.ended.ensures); work = all_cleared (2 * (c.args.n * c.args.m)) (2 * (c.args.n * c.args.m)) _ _ did.rest.1 closing.work (omega arith); smoothed = table_passed _ _ _ start did.state c.end_of-end.ensures _ passed closing.smoothed }
+pub returns-in-Err : goal.returns-in-Err
+returns-in-Err c =
+    let did = c.passes.ensures in
+    let end = sym c.end_of.ensures ∙ c.in-Err.is in
+    record {
+      answer = end_refused _ _ _ c.args.start.now did.state end;
+      work = all_cleared (2 * (c.args.n * c.args.sizes.windows)) (2 * (c.args.n * c.args.sizes.windows)) _ _ did.rest.1 c.clear.ensures (omega arith);
+      smoothed = table_refused _ _ _ c.args.start.now did.state end _;
+    }

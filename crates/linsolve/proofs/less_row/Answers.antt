@@ -1,33 +1,13 @@
--- `less_row`: the two rows lie apart and within the table.
-use Prim.Native.Nat.{◌+◌, ◌*◌, ◌≤◌}
+use mathlib.Core.Path.{◌≡◌}
 use native.Mathlib.Omega.{arith}
-use Rattle.number.proofs.Table.{row_within, row_before}
-use Rattle.linsolve.proofs.Steps.{less_is}
-use Rattle.linsolve.proofs.less_row.Goals.{Start}
+use Rattle.linsolve.proofs.Steps.{less_first, less_more, less_is}
 use Rattle.linsolve.proofs.less_row.Goals as goal
 
-fits : (c : Start) → c.args.r * c.args.n + c.args.n ≤ 256
-fits c = row_within _ _ c.requires.0 c.requires.2
+pub loop-j-init : goal.loop-j-init
+loop-j-init c = less_first _ _ _ c.args.b.now _ _
 
-apart : (c : Start) → c.args.c * c.args.n + c.args.n ≤ c.args.r * c.args.n
-apart c = row_before _ _ _ c.requires.1
-
-pub overflow_mul-r : goal.overflow_mul-r
-overflow_mul-r c = omega (arith, fits c.before)
-
-pub overflow_add-r : goal.overflow_add-r
-overflow_add-r c = omega (arith, fits c.before)
-
-pub overflow_mul-c : goal.overflow_mul-c
-overflow_mul-c c = omega (arith, fits c.before, apart c.before)
-
-pub overflow_add-c : goal.overflow_add-c
-overflow_add-c c = omega (arith, fits c.before, apart c.before)
-
-pub less_part-requires : goal.less_part-requires
-less_part-requires c = (omega (arith, apart c.before), omega (arith, fits c.before), c.requires.3)
+pub loop-j-preserved : goal.loop-j-preserved
+loop-j-preserved c = less_more _ _ _ c.args.b.now _ _ _ c.requires.0 c.told-a c.requires.1 c.requires.2 (omega arith) c.loop-j-test.true c.loop-j.invariant
 
 pub returns : goal.returns
-returns c =
-    let start = c in
-    less_is _ _ _ _ start.requires.3 start.requires.4 _ _ start.requires.0 start.requires.1 start.requires.2 c.less_part.ensures
+returns c = let e : c.loop-j.j ≡ c.args.n = omega arith in less_is _ _ _ _ _ _ (rw e at c.loop-j.invariant)

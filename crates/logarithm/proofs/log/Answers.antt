@@ -1,13 +1,12 @@
 -- `log`: zeros, numbers below zero, infinity and NaN, subnormal numbers, the others.
-use mathlib.Core.Bool.{Bool, true, false, not}
-use mathlib.Core.Path.{◌≡◌, refl, sym, subst}
+use mathlib.Core.Bool.{true, false}
+use mathlib.Core.Path.{◌≡◌, refl, sym}
 use Prim.Native.Nat.{ℕ, ◌%◌, ◌^◌, ◌≤◌, ◌<◌}
 use native.Mathlib.Omega.{arith}
 use borrow.Author.Tests.{le-leb, lt-leb, eq-eqb, ne_eqb, ltb-false, leb-false}
-use lib.Dec.{T, ltb, leb}
+use lib.Dec.{ltb, leb}
 use lib.Ieee.{binary64, to_bits, add}
-use lib.Ieee.Compare.{differs_from_itself}
-use Rattle.number.proofs.Cases.{no_nan}
+use Rattle.number.proofs.Cases.{is_nan_lem}
 use Rattle.logarithm.specs.Log.{log_of}
 use Rattle.logarithm.proofs.Tests.{first, none}
 use Rattle.logarithm.proofs.log.Goals.{then-b+else-b-eq0+else-b-ge9223372036854775808+else-b-ge9218868437227405312, else-b}
@@ -16,12 +15,9 @@ use Rattle.logarithm.proofs.log.Goals as goal
 no_zero : (b : ℕ) → 2 ^ 52 ≤ b → b < 0x7ff0_0000_0000_0000 → b % 2 ^ 63 ≡ 0 → ⊥
 no_zero b l h e = omega arith
 
-pub returns-then-x : goal.returns-then-x
+pub returns-then-is_nan : goal.returns-then-is_nan
 unfolding log_of to_bits add
-returns-then-x c = rw (differs_from_itself c.args.x (subst T (sym c.if-x.true) tt)) refl
-
-pub float_to_bits-b : goal.float_to_bits-b
-float_to_bits-b c = subst (λ (b : Bool). T (not b)) (sym (no_nan c.args.x c.if-x.false)) tt
+returns-then-is_nan c = rw (← is_nan_lem c.args.x (sym c.if-is_nan.ensures.value)) refl
 
 pub returns-then-b-eq0 : goal.returns-then-b-eq0
 unfolding log_of

@@ -1,14 +1,10 @@
-use mathlib.Core.Path.{◌≡◌, refl}
+use mathlib.Core.Path.{ap, ◌∙◌}
+use native.Mathlib.Nat.{zero-add}
 use native.Mathlib.Omega.{arith}
-use lib.ListN.{length-set}
-use Rattle.number.proofs.Table.{fill_at_none, fill_at_more}
+use Rattle.number.specs.Table.{◌!◌}
+use Rattle.number.proofs.Table.{part_tab, fill_at_put}
 use Rattle.number.proofs.copy.Goals as goal
 
-pub loop-i-init : goal.loop-i-init
-loop-i-init c = (omega arith, refl, fill_at_none _ _ _)
-
-pub loop-i-preserved : goal.loop-i-preserved
-loop-i-preserved c = (omega arith, simp length-set (omega arith), fill_at_more _ _ _ _ c.loop-i.invariant.2 refl (omega arith))
-
 pub returns : goal.returns
-returns c = let e : c.loop-i.i ≡ c.args.n = omega arith in rw e at c.loop-i.invariant.2
+returns c =
+    fill_at_put _ _ _ _ (omega arith) (c.copy_from_slice.ensures.after ∙ part_tab _ 0 _ _ (omega arith) (λ i _. ap (λ j. c.args.from.now ! j) (zero-add i)))

@@ -1,16 +1,13 @@
-use mathlib.Core.Path.{◌≡◌, sym, ◌∙◌}
-use native.Mathlib.Omega.{arith}
-use Rattle.number.proofs.First.{first_none, first_more, first_found}
+-- `first_failing`: what `position` finds, or n.
+use Rattle.std.proofs.Common.{rules, tests}
+use mathlib.Core.Path.{◌≡◌, ◌∙◌}
+use mathlib.Core.Bool.{true, false}
+use Rattle.std.proofs.lemmas.Iterator.{YieldsList-from_slice, IsFirst-from_position}
+use Rattle.number.specs.Tests.{holds}
+use Rattle.number.proofs.First.{first_by_position}
 use Rattle.number.proofs.first_failing.Goals as goal
 
-pub loop-i-init : goal.loop-i-init
-loop-i-init c = (omega arith, first_none _)
-
-pub returns-then-not-passes : goal.returns-then-not-passes
-returns-then-not-passes c = sym (first_found _ _ c.loop-i.invariant.1 (sym c.passes.ensures ∙ c.if-not-passes.true) _ c.loop-i-test.true)
-
-pub loop-i-preserved : goal.loop-i-preserved
-loop-i-preserved c = (omega arith, first_more _ _ c.loop-i.invariant.1 (sym c.passes.ensures ∙ c.if-not-passes.false))
-
 pub returns : goal.returns
-returns c = let e : c.loop-i.i ≡ c.args.n = omega arith in sym (rw e at c.loop-i.invariant.1)
+returns c =
+    let first = IsFirst-from_position _ _ c.position.result (λ y. holds c.args.test y ≡ false) (λ y. holds c.args.test y ≡ true) c.position.ensures.ran (YieldsList-from_slice _ c.iter.ensures.rest) (λ x q k. search (rules, tests)) (λ x q k. search (rules, tests)) in
+    c.unwrap_or.ensures ∙ first_by_position (holds c.args.test) _ _ c.requires _ first

@@ -1,6 +1,6 @@
--- `is_finite`: x - x is zero exactly where x is finite.
-use Rattle.number.proofs.Cases.{self_difference}
+use mathlib.Core.Path.{◌∙◌}
+use Rattle.number.proofs.Cases.{finite_is}
 use Rattle.number.proofs.is_finite.Goals as goal
 
 pub returns : goal.returns
-returns c = self_difference c.args.x
+returns c = c.is_finite.ensures.value ∙ finite_is c.args.x

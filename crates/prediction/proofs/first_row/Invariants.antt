@@ -1,10 +1,8 @@
 -- The first predictions, window by window.
-use Prim.Native.Nat.{◌≤◌}
 use mathlib.Core.Path.{◌≡◌}
-use lib.ListN.{length}
 use Rattle.number.specs.Table.{fill_at}
 use Rattle.prediction.specs.Steps.{first_at}
 use Rattle.prediction.proofs.first_row.Given as goal
 
 abbrev pub invariant-loop-a : goal.invariant-loop-a
-invariant-loop-a l = (l.a ≤ l.m) × (length l.row ≡ length l.initial.row) × (l.row ≡ fill_at 0 (first_at l.q l.shares) l.a l.initial.row)
+invariant-loop-a l = l.row ≡ fill_at 0 (first_at l.q l.shares) l.a l.initial.row

@@ -1,14 +1,10 @@
-use mathlib.Core.Path.{◌≡◌, refl}
+use mathlib.Core.Path.{refl}
 use native.Mathlib.Omega.{arith}
-use lib.ListN.{length-set}
 use Rattle.number.proofs.Table.{fill_at_none, fill_at_more}
 use Rattle.prediction.proofs.step_block.Goals as goal
 
 pub loop-s-init : goal.loop-s-init
-loop-s-init c = (omega arith, refl, fill_at_none _ _ _)
+loop-s-init c = fill_at_none _ _ _
 
 pub loop-s-preserved : goal.loop-s-preserved
-loop-s-preserved c = (omega arith, simp length-set c.loop-s.invariant.1, fill_at_more _ _ _ _ c.loop-s.invariant.2 refl (omega arith))
-
-pub returns : goal.returns
-returns c = let e : c.loop-s.s ≡ c.args.k = omega arith in rw e at c.loop-s.invariant.2
+loop-s-preserved c = fill_at_more _ _ _ _ c.loop-s.invariant refl (omega arith)

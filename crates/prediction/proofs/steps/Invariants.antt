@@ -1,5 +1,4 @@
 -- The steps into the windows, window by window.
-use Prim.Native.Nat.{◌≤◌}
 use mathlib.Core.Path.{◌≡◌}
 use lib.ListN.{replicate}
 use Rattle.number.specs.Number.{zero⁺}
@@ -8,4 +7,4 @@ use Rattle.prediction.specs.Steps.{step_at}
 use Rattle.prediction.proofs.steps.Given as goal
 
 abbrev pub invariant-loop-a : goal.invariant-loop-a
-invariant-loop-a l = (l.a ≤ l.m) × (l.k ≡ l.q.means_count) × (l.row ≡ fill_at 0 (step_at l.q) l.a (replicate 256 zero⁺))
+invariant-loop-a l = l.row ≡ fill_at 0 (step_at l.q) l.a (replicate 256 zero⁺)

@@ -1,10 +1,6 @@
--- `by_digits`: after j steps q is the root of the first 2 j digits, cut, and rest what they are above its square.
-use Rattle.std.proofs.Common.{◌-◌}
+-- `by_digits`: after as many steps as are counted q is the root of twice as many first digits, cut, and rest what they are above its square.
 use Rattle.root.proofs.Digits.{Step}
 use Rattle.root.proofs.by_digits.Given as goal
 
-abbrev pub invariant-loop-j : goal.invariant-loop-j
-invariant-loop-j l = Step l.m l.q l.rest l.low l.j
-
-abbrev pub decreases-loop-j : goal.decreases-loop-j
-decreases-loop-j l = 53 - l.j
+abbrev pub invariant-loop : goal.invariant-loop
+invariant-loop l = Step l.m l.q l.rest l.low l.counter

@@ -1,14 +1,13 @@
-use mathlib.Core.Path.{◌≡◌, refl}
+-- `clear` meets its contract: +0 in the first places, and behind them what stood there.
+use mathlib.Core.Path.{◌≡◌}
 use native.Mathlib.Omega.{arith}
-use lib.ListN.{length-set}
-use Rattle.number.proofs.Table.{fill_at_none, fill_more}
+use lib.ListN.{replicate}
+use lib.Seq.{length-take-le}
+use Rattle.number.specs.Number.{zero⁺}
+use Rattle.rows.proofs.Places.{fill_same}
 use Rattle.rows.proofs.clear.Goals as goal
 
-pub loop-i-init : goal.loop-i-init
-loop-i-init c = (omega arith, refl, fill_at_none _ _ _)
-
-pub loop-i-preserved : goal.loop-i-preserved
-loop-i-preserved c = (omega arith, simp length-set (omega arith), fill_more _ _ _ c.loop-i.invariant.2 refl (omega arith))
-
 pub returns : goal.returns
-returns c = let e : c.loop-i.i ≡ c.args.n = omega arith in rw e at c.loop-i.invariant.2
+returns c =
+    let all : c.fill.new.self ≡ replicate c.args.n zero⁺ = rw (length-take-le c.args.n c.args.work.now (omega arith)) at (c.fill.ensures.after (λ y e. e)) in
+    rw all (fill_same zero⁺ c.args.n c.args.work.now (omega arith))

@@ -7,9 +7,6 @@ use Rattle.stationary.proofs.sides_of.Goals as goal
 pub loop-i-init : goal.loop-i-init
 loop-i-init c = (omega arith, fill_at_none 0 _ _)
 
-pub loop-i-smaller : goal.loop-i-smaller
-loop-i-smaller c = omega arith
-
 pub loop-i-preserved : goal.loop-i-preserved
 loop-i-preserved c = (omega arith, fill_more _ _ _ c.loop-i.invariant.1 c.side_at.ensures (omega arith))
 

@@ -9,9 +9,6 @@ use Rattle.stationary.proofs.table_of.Goals as goal
 pub loop-e-init : goal.loop-e-init
 loop-e-init c = (omega arith, fill_at_none 0 _ _, omega (arith, mul-le-mul c.requires.0 c.requires.0))
 
-pub loop-e-smaller : goal.loop-e-smaller
-loop-e-smaller c = omega arith
-
 pub loop-e-preserved : goal.loop-e-preserved
 loop-e-preserved c = (omega arith, fill_more _ _ _ c.loop-e.invariant.1 c.entry_at.ensures (omega arith), c.loop-e.invariant.2)
 

@@ -1,6 +1,6 @@
 -- `table_of` meets its contract: the system's table, place by place.
 use mathlib.Core.Path.{◌≡◌}
-use Prim.Native.Nat.{◌-◌, ◌*◌, ◌≤◌}
+use Prim.Native.Nat.{◌*◌, ◌≤◌}
 use lib.ListN.{replicate}
 use Rattle.number.specs.Number.{zero⁺}
 use Rattle.number.specs.Table.{fill_at}
@@ -9,6 +9,3 @@ use Rattle.stationary.proofs.table_of.Given as goal
 
 abbrev pub invariant-loop-e : goal.invariant-loop-e
 invariant-loop-e l = (l.e ≤ l.n * l.n) × (l.a ≡ fill_at 0 (entry l.n l.transition) l.e (replicate 256 zero⁺)) × (l.n * l.n ≤ 256)
-
-abbrev pub decreases-loop-e : goal.decreases-loop-e
-decreases-loop-e l = l.n * l.n - l.e

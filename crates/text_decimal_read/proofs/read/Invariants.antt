@@ -1,11 +1,6 @@
--- `text_decimal_read::read` meets its contract: what is left of the text leads where the whole text does. The measure is its length.
-use Prim.Native.Nat.{◌-◌}
-use lib.ListN.{length}
+-- `text_decimal_read::read` meets its contract: what is left of the text leads where the whole text does.
 use Rattle.text_decimal_read.proofs.Scan.{Scanned}
 use Rattle.text_decimal_read.proofs.read.Given as goal
 
 abbrev pub invariant-loop-i : goal.invariant-loop-i
 invariant-loop-i l = Scanned l.text l.s l.i
-
-abbrev pub decreases-loop-i : goal.decreases-loop-i
-decreases-loop-i l = length l.text - l.i

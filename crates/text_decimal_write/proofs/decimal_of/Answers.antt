@@ -12,6 +12,8 @@ use Rattle.text_decimal_write.proofs.First.{Guessed, guessed}
 use Rattle.text_decimal_write.proofs.Seventeen.{Scaled, units_some, units_few, whole_fits, first_fits, second_fits, as_guessed, one_more}
 use mathlib.Core.Bool.{Bool}
 use mathlib.Core.Path.{◌≡◌}
+use Rattle.text_limbs.specs.Limbs.{value}
+use Rattle.text_decimal_write.proofs.decimal_of.Goals.{After-scale-rest}
 use Rattle.text_decimal_write.proofs.decimal_of.Goals as goal
 
 units-low : (sig place : ℕ) → sig < 2 ^ 53 → place < 2046 → sig * 2 ^ place < 2 ^ 2098
@@ -29,47 +31,41 @@ scaled {u} {t} {v} {w} {r} g e cut = record {
   cut = subst (λ (u : ℕ). CutBy (over u t) (10 ^ (t - 340)) w r) e cut;
 }
 
-pub placed-l-requires : goal.placed-l-requires
-placed-l-requires c = omega (arith, c.requires.2)
-
-pub digits-requires : goal.digits-requires
-digits-requires c = c.placed-l.ensures.1
+-- what the limbs hold once they are scaled
+held : (c : After-scale-rest) → Scaled (c.args.sig * 2 ^ c.args.place) c.guess-t.result (value c.scale-rest.new.l.limbs) c.scale-rest.result
+held c = scaled (known c.args.sig c.args.place c.requires.0 c.requires.1 c.requires.2 c.guess-t.ensures c.digits.ensures c.placed-l.ensures) c.placed-l.ensures c.scale-rest.ensures
 
 pub guess-t-requires : goal.guess-t-requires
 guess-t-requires c =
     let z : c.digits.result ≤ 2098 =
-    subst (λ (n : ℕ). n ≤ 2098) (sym (c.digits.ensures ∙ ap size c.placed-l.ensures.0)) (size-le (c.args.sig * 2 ^ c.args.place) 2098 (units-low c.args.sig c.args.place c.requires.1 c.requires.2)) in
+    subst (λ (n : ℕ). n ≤ 2098) (sym (c.digits.ensures ∙ ap size c.placed-l.ensures)) (size-le (c.args.sig * 2 ^ c.args.place) 2098 (units-low c.args.sig c.args.place c.requires.1 c.requires.2)) in
     omega (arith, z)
 
 pub scale-rest-requires : goal.scale-rest-requires
 scale-rest-requires c =
-    let p = c.placed-l.ensures in
-    (p.1, subst (λ (u : ℕ). u * 10 ^ (340 - c.guess-t.result) < 2 ^ 2304) (sym p.0) (known c.args.sig c.args.place c.requires.0 c.requires.1 c.requires.2 c.guess-t.ensures c.digits.ensures c.placed-l.ensures.0).fits)
+    subst (λ (u : ℕ). u * 10 ^ (340 - c.guess-t.result) < 2 ^ 2304) (sym c.placed-l.ensures) (known c.args.sig c.args.place c.requires.0 c.requires.1 c.requires.2 c.guess-t.ensures c.digits.ensures c.placed-l.ensures).fits
 
 pub cut_off-c-requires : goal.cut_off-c-requires
-cut_off-c-requires c = (c.scale-rest.ensures.1, omega arith, whole_fits (scaled (known c.args.sig c.args.place c.requires.0 c.requires.1 c.requires.2 c.guess-t.ensures c.digits.ensures c.placed-l.ensures.0) c.placed-l.ensures.0 c.scale-rest.ensures.0))
+cut_off-c-requires c = (omega arith, whole_fits (held (goal.at.cut_off-c-requires c).After-scale-rest))
 
 pub nearest-requires : goal.nearest-requires
 nearest-requires c =
-    (c.scale-rest.ensures.1, first_fits (scaled (known c.args.sig c.args.place c.requires.0 c.requires.1 c.requires.2 c.guess-t.ensures c.digits.ensures c.placed-l.ensures.0) c.placed-l.ensures.0 c.scale-rest.ensures.0), omega (arith, (scaled (known c.args.sig c.args.place c.requires.0 c.requires.1 c.requires.2 c.guess-t.ensures c.digits.ensures c.placed-l.ensures.0) c.placed-l.ensures.0 c.scale-rest.ensures.0).guess.few))
+    (first_fits (held (goal.at.nearest-requires c).After-scale-rest), omega (arith, (held (goal.at.nearest-requires c).After-scale-rest).guess.few))
 
 pub returns-then-c-lt100000000000000000 : goal.returns-then-c-lt100000000000000000
 returns-then-c-lt100000000000000000 c =
-    as_guessed (scaled (known c.args.sig c.args.place c.requires.0 c.requires.1 c.requires.2 c.guess-t.ensures c.digits.ensures c.placed-l.ensures.0) c.placed-l.ensures.0 c.scale-rest.ensures.0) _ c.nearest.ensures (subst (λ (z : ℕ). z < 10 ^ 17) c.cut_off-c.ensures.0 c.if-c-lt100000000000000000.true)
-
-pub over-r-requires : goal.over-r-requires
-over-r-requires c = (c.scale-rest.ensures.1, omega arith, omega arith)
+    as_guessed (held (goal.at.returns-then-c-lt100000000000000000 c).After-scale-rest) _ c.nearest.ensures (subst (λ (z : ℕ). z < 10 ^ 17) c.cut_off-c.ensures.0 c.if-c-lt100000000000000000.true)
 
 pub overflow_add-t : goal.overflow_add-t
-overflow_add-t c = omega (arith, (scaled (known c.args.sig c.args.place c.requires.0 c.requires.1 c.requires.2 c.guess-t.ensures c.digits.ensures c.placed-l.ensures.0) c.placed-l.ensures.0 c.scale-rest.ensures.0).guess.few)
+overflow_add-t c = omega (arith, (held (goal.at.overflow_add-t c).After-scale-rest).guess.few)
 
 pub nearest-requires-2 : goal.nearest-requires-2
 nearest-requires-2 c =
-    let s = scaled (known c.args.sig c.args.place c.requires.0 c.requires.1 c.requires.2 c.guess-t.ensures c.digits.ensures c.placed-l.ensures.0) c.placed-l.ensures.0 c.scale-rest.ensures.0 in
+    let s = held (goal.at.nearest-requires-2 c).After-scale-rest in
     let o = c.over-r.ensures in
-    (o.2, second_fits s _ _ o.0, omega (arith, s.guess.few))
+    (second_fits s _ _ o.0, omega (arith, s.guess.few))
 
 pub returns : goal.returns
 returns c =
     let o = c.over-r.ensures in
-    one_more (scaled (known c.args.sig c.args.place c.requires.0 c.requires.1 c.requires.2 c.guess-t.ensures c.digits.ensures c.placed-l.ensures.0) c.placed-l.ensures.0 c.scale-rest.ensures.0) _ _ _ o.0 o.1 c.nearest-2.ensures (subst (λ (z : ℕ). 10 ^ 17 ≤ z) c.cut_off-c.ensures.0 c.if-c-lt100000000000000000.false)
+    one_more (held (goal.at.returns c).After-scale-rest) _ _ _ o.0 o.1 c.nearest-2.ensures (subst (λ (z : ℕ). 10 ^ 17 ≤ z) c.cut_off-c.ensures.0 c.if-c-lt100000000000000000.false)

@@ -1,18 +1,26 @@
-use native.Mathlib.Omega.{arith}
-use Rattle.text_decimal_write.proofs.Bytes.{put_first, put_next, put_last, put_length}
+use Rattle.std.proofs.Common.{◌≡◌, ℕ, List, ◌++◌, ◌-◌, ap, sym, ◌∙◌, append_assoc, arith}
+use mathlib.Core.List.{append-nil}
+use Rattle.text_decimal_write.specs.Decimals.{digits_text}
+use Rattle.text_decimal_write.proofs.Bytes.{digit_next, digits_none}
 use Rattle.text_decimal_write.proofs.push_digits.Goals as goal
 
-pub loop-left-init : goal.loop-left-init
-loop-left-init c = put_first _ _ _ c.requires
-
-pub cut-d-requires : goal.cut-d-requires
-cut-d-requires c = omega (arith, c.loop-left.invariant.room, c.loop-left.invariant.most)
-
-pub push-out-requires : goal.push-out-requires
-push-out-requires c = omega (arith, c.loop-left.invariant.long, c.loop-left.invariant.room, c.loop-left-test.true)
-
 pub loop-left-preserved : goal.loop-left-preserved
-loop-left-preserved c = put_next _ _ _ _ _ _ _ c.loop-left.invariant c.loop-left-test.true c.cut-d.ensures c.push-out.ensures.0 c.push-out.ensures.1
+loop-left-preserved c =
+    let left : ℕ = c.loop-left.left in
+    let text : List ℕ = c.loop-left.text.items in
+    let v : ℕ = c.args.v in
+    record {
+      is =
+          ap (λ (t : List ℕ). t ++ digits_text (left - 1) v) c.push.ensures.items
+          ∙ append_assoc text _ _
+          ∙ ap (λ (t : List ℕ). text ++ t) (sym (digit_next left v c.cut.result (omega arith) c.cut.ensures))
+          ∙ c.loop-left.invariant.is;
+      long = omega arith;
+    }
 
-pub returns : goal.returns
-returns c = (put_length _ _ _ _ _ c.loop-left.invariant c.loop-left-test.false, put_last _ _ _ _ _ c.loop-left.invariant c.loop-left-test.false)
+pub returns-clause-items : goal.returns-clause-items
+returns-clause-items c =
+    let left : 0 ≡ c.loop-left.left = omega arith in
+    sym (append-nil _)
+    ∙ ap (λ (t : List ℕ). c.loop-left.text.items ++ t) (sym (digits_none c.args.v) ∙ ap (λ (k : ℕ). digits_text k c.args.v) left)
+    ∙ c.loop-left.invariant.is

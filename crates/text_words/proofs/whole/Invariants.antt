@@ -1,10 +1,6 @@
--- `text_words::whole` is safe and ends: a number of nine digits fits. The measure is the count of digits to come.
-use Prim.Native.Nat.{◌≤◌, ◌-◌}
-use lib.ListN.{length}
+-- `text_words::whole` meets its contract: the number has no more than nine digits.
+use Prim.Native.Nat.{◌<◌}
 use Rattle.text_words.proofs.whole.Given as goal
 
-abbrev pub invariant-loop-i : goal.invariant-loop-i
-invariant-loop-i l = l.i ≤ length l.text
-
-abbrev pub decreases-loop-i : goal.decreases-loop-i
-decreases-loop-i l = length l.text - l.i
+abbrev pub invariant-loop-c : goal.invariant-loop-c
+invariant-loop-c l = l.n < 1000000000

@@ -1,11 +1,11 @@
--- `told::list` hands over 16 numbers where the check passed, and spells the check.
+-- `told::list` hands over 16 numbers where there is no refusal, and spells the check.
+use Rattle.std.specs.Prelude.{Ok, Err}
 use mathlib.Core.Path.{refl}
-use Rattle.refusal.specs.declared.Check.TheVariants.{Passed, Failed}
 use Rattle.c_layout.proofs.Spelling.{lists}
 use Rattle.c_layout.proofs.told.list.Goals as goal
 
-pub returns-in-Passed : goal.returns-in-Passed
-returns-in-Passed c = rw c.in-Passed.is (lists Passed _ _ refl c.spell.ensures)
+pub returns-in-Ok : goal.returns-in-Ok
+returns-in-Ok c = rw c.in-Ok.is (lists (Ok _) _ refl c.spell.ensures)
 
-pub returns-in-Failed : goal.returns-in-Failed
-returns-in-Failed c = rw c.in-Failed.is (lists (Failed _) _ _ refl c.refuse.ensures)
+pub returns-in-Err : goal.returns-in-Err
+returns-in-Err c = rw c.in-Err.is (lists (Err _) _ refl c.refuse.ensures)

@@ -1,9 +1,9 @@
 -- `coefficients`: 15 at the first coefficient that is not finite, or none.
-use Rattle.params.proofs.Places.{ar_first}
+use Rattle.refusal.specs.declared.Refusal.TheVariants.{Ar}
+use Rattle.number.specs.Tests.{holds}
+use Rattle.params.specs.Checks.{ar_check}
 use Rattle.params.proofs.checks.coefficients.Goals as goal
 
-pub returns-then-i-n : goal.returns-then-i-n
-returns-then-i-n c = (ar_first _ c.first_failing-i.ensures).0 c.if-i-n.true
-
 pub returns : goal.returns
-returns c = (ar_first _ c.first_failing-i.ensures).1 c.if-i-n.false
+unfolding ar_check holds
+returns c = c.each_passes.ensures Ar (λ i v w e. e)

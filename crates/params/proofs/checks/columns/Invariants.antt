@@ -1,8 +1,7 @@
 -- `columns`: 14 at the first column whose sum is too far from one, or none.
 use mathlib.Core.Path.{◌≡◌}
 use Prim.Native.Nat.{◌≤◌}
-use Rattle.refusal.specs.declared.Check.TheVariants.{Passed}
-use Rattle.refusal.specs.Checks.{each}
+use Rattle.refusal.specs.Checks.{Passed, each}
 use Rattle.params.specs.Checks.{column_check}
 use Rattle.params.proofs.checks.columns.Given as goal
 

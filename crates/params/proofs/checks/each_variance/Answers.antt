@@ -1,9 +1,9 @@
 -- `each_variance`: 16 at the first variance that is not usable, or none.
-use Rattle.params.proofs.Places.{variance_first}
+use Rattle.refusal.specs.declared.Refusal.TheVariants.{Variance}
+use Rattle.number.specs.Tests.{holds}
+use Rattle.params.specs.Checks.{variance_check}
 use Rattle.params.proofs.checks.each_variance.Goals as goal
 
-pub returns-then-i-n : goal.returns-then-i-n
-returns-then-i-n c = (variance_first _ c.first_failing-i.ensures).0 c.if-i-n.true
-
 pub returns : goal.returns
-returns c = (variance_first _ c.first_failing-i.ensures).1 c.if-i-n.false
+unfolding variance_check holds
+returns c = c.each_passes.ensures Variance (λ i v w e. e)

@@ -1,9 +1,9 @@
 -- `entries`: 13 at the first entry that is no probability, or none.
-use Rattle.params.proofs.Places.{entry_first}
+use Rattle.refusal.specs.declared.Refusal.TheVariants.{Transition}
+use Rattle.number.specs.Tests.{holds}
+use Rattle.params.specs.Checks.{is_probability, entry_check}
 use Rattle.params.proofs.checks.entries.Goals as goal
 
-pub returns-then-e-n : goal.returns-then-e-n
-returns-then-e-n c = (entry_first _ c.first_failing-e.ensures).0 c.if-e-n.true
-
 pub returns : goal.returns
-returns c = (entry_first _ c.first_failing-e.ensures).1 c.if-e-n.false
+unfolding entry_check is_probability holds
+returns c = c.each_passes.ensures Transition (λ i v w e. e)

@@ -1,9 +1,7 @@
--- `ten::divide` meets its contract: each step takes nine from the exponent. The measure is what is left of it.
+-- `ten::divide` meets its contract: each step takes nine from the exponent.
+use Rattle.std.proofs.Common.{◌-◌, ◌*◌}
 use Rattle.text_limbs.proofs.Tens.{Lowered}
 use Rattle.text_limbs.proofs.ten.divide.Given as goal
 
-abbrev pub invariant-loop-left : goal.invariant-loop-left
-invariant-loop-left l = Lowered l.initial.l l.l l.e l.left l.rest
-
-abbrev pub decreases-loop-left : goal.decreases-loop-left
-decreases-loop-left l = l.left
+abbrev pub invariant-loop : goal.invariant-loop
+invariant-loop l = Lowered l.initial.n.limbs l.n.limbs l.e (l.e - 9 * l.counter) l.rest

@@ -1,6 +1,0 @@
--- `cuts_of` is safe and ends. The measure is the count of groups to come.
-use Prim.Native.Nat.{◌≤◌}
-use Rattle.msar_start_groups.proofs.cuts_of.Given as goal
-
-abbrev pub invariant-loop-g : goal.invariant-loop-g
-invariant-loop-g l = l.g ≤ l.k

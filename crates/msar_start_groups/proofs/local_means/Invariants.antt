@@ -1,8 +1,0 @@
--- `local_means` is safe and ends. The measure is the count of readings to come.
-use Prim.Native.Nat.{◌≤◌}
-use lib.ListN.{length}
-use mathlib.Core.Path.{◌≡◌}
-use Rattle.msar_start_groups.proofs.local_means.Given as goal
-
-abbrev pub invariant-loop-t : goal.invariant-loop-t
-invariant-loop-t l = (l.t ≤ l.t-end) × (l.t-end ≡ length l.y)

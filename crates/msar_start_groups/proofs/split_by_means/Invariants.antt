@@ -1,6 +1,0 @@
--- `split_by_means` is safe and ends. The measure is the count of readings to come.
-use Prim.Native.Nat.{◌≤◌}
-use Rattle.msar_start_groups.proofs.split_by_means.Given as goal
-
-abbrev pub invariant-loop-t : goal.invariant-loop-t
-invariant-loop-t l = l.t ≤ l.n

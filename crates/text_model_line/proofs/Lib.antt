@@ -1,2 +1,0 @@
--- places of a table
-pub mod Below

@@ -1,2 +1,0 @@
--- the first place that fails a test
-pub mod Past
