@@ -1,5 +1,5 @@
 // The regimes of fitted parameters, put in the order in which the means of the start stood: EM may bring a regime to another's place.
-ghost use Rattle.std.specs.Prelude.{◌≤◌};
+ghost use Rattle.std.specs.Prelude.{◌*◌, ◌≤◌};
 
 use msar_out::{entry, row_start};
 use params::MsarParams;
@@ -60,42 +60,25 @@ fn picked(values: &[f64], at: usize, from: [usize; 16], n: usize) -> [f64; 16]
     row
 }
 
-// n numbers from a place on. Beside picked, which moves them too.
-fn copied(values: &[f64], at: usize, n: usize) -> [f64; 16]
-    requires { n ≤ 16 }
-{
-    let mut row = [0.0; 16];
-    for (place, value) in row[..n].iter_mut().zip(values.iter().skip(at)) {
-        *place = *value;
-    }
-    row
-}
+// Places that stay as they are.
+const IN_TURN: [usize; 16] = [0, 1, 2, 3, 4, 5, 6, 7, 8, 9, 10, 11, 12, 13, 14, 15];
 
-// The table with rows and columns moved.
-fn transition(old: &[f64], from: [usize; 16], k: usize) -> [f64; 256]
-    requires { k ≤ 16 }
+// k rows of n numbers, the rows moved and in each the columns: of the transition table, and of each regime's own coefficients.
+fn moved<const N: usize>(
+    old: &[f64],
+    from: [usize; 16],
+    columns: [usize; 16],
+    k: usize,
+    n: usize,
+) -> [f64; N]
+    requires { (k ≤ 16) × (n ≤ 16) × (16 * n ≤ N) }
 {
-    let mut table = [0.0; 256];
+    let mut table = [0.0; N];
     // an index, not enumerate(): of its number the check knows no bound, which with_row asks
     for i in 0..k {
-        let source = row_start(from[i].min(15), k);
-        let row = picked(old, source, from, k);
-        let grown = text_model_line::with_row(table, i, k, row);
-        table = grown;
-    }
-    table
-}
-
-// Each regime's own block of p coefficients. Beside transition: there the columns move too.
-fn blocks(old: &[f64], from: [usize; 16], k: usize, p: usize) -> [f64; 112]
-    requires { (k ≤ 16) × (p ≤ 7) }
-{
-    let mut table = [0.0; 112];
-    // an index, not enumerate(): of its number the check knows no bound, which with_row asks
-    for i in 0..k {
-        let source = row_start(from[i].min(15), p);
-        let row = copied(old, source, p);
-        let grown = text_model_line::with_row(table, i, p, row);
+        let source = row_start(from[i].min(15), n);
+        let row = picked(old, source, columns, n);
+        let grown = text_model_line::with_row(table, i, n, row);
         table = grown;
     }
     table
@@ -107,9 +90,9 @@ fn rearranged(q: MsarParams, from: [usize; 16], k: usize) -> MsarParams
 {
     let mut next = q;
     next.means = picked(&q.means, 0, from, k);
-    next.transition = transition(&q.transition, from, k);
+    next.transition = moved(&q.transition, from, from, k, k);
     if q.ar_blocks == k {
-        next.ar = blocks(&q.ar, from, k, q.order.min(7));
+        next.ar = moved(&q.ar, from, IN_TURN, k, q.order.min(7));
     }
     if q.variances_count == k {
         next.variances = picked(&q.variances, 0, from, k);
