@@ -110,16 +110,18 @@ fn rule_check(number: usize) -> Result<(), Refusal>
 pub fn asked(number: usize, s: MsarSpec, q: MsarParams) -> Result<(), Refusal>
     ensures { result ≡ (rule_check number before params_check s q) }
 {
-    rule_check(number)?;
-    parameters(s, q)
+    let rule = rule_check(number);
+    let given = parameters(s, q);
+    refusal::first_of(rule, given)
 }
 
 // The parameter checks, then 20.
 pub fn parameters(s: MsarSpec, q: MsarParams) -> Result<(), Refusal>
     ensures { result ≡ params_check s q }
 {
-    q.check()?;
-    shape(s, q)
+    let own = q.check();
+    let shape = shape(s, q);
+    refusal::first_of(own, shape)
 }
 
 // 20.

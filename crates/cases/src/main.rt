@@ -195,7 +195,7 @@ fn p5() -> bool
         return false;
     };
     let mut row = [0.0; 256];
-    prediction::first_row(&q, &shares, Sizes::of(2, 1, 4), &mut row);
+    prediction::first_row(&q, &shares, Sizes::shaped(2, 1), &mut row);
     is(row[0], 0.0625) & is(row[1], 0.1875) & is(row[2], 0.1875) & is(row[3], 0.5625)
 }
 
@@ -215,7 +215,7 @@ fn p7() -> bool
     ensures { result ≡ true }
 {
     let q = two(0, 0.5, 0.25, 0.5, 0.75);
-    let steps = prediction::steps(&q, Sizes::of(2, 0, 2));
+    let steps = prediction::steps(&q, Sizes::shaped(2, 0));
     let mut previous = [0.0; 256];
     previous[0] = 0.25;
     previous[1] = 0.75;

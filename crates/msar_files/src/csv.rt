@@ -17,7 +17,7 @@ pub struct Columns<'a> {
 
 // What the first line says: whether it is a heading, how many cells a line has, and where the reading and the kept cell stand.
 #[derive(Clone, Copy)]
-pub(crate) struct Layout {
+pub struct Layout {
     pub headed: bool,
     pub cells: usize,
     pub column: usize,

@@ -8,7 +8,7 @@ use arrayvec::ArrayVec;
 const ROOM: usize = 4097;
 
 // Behind the kept cells of the readings stands that of the heading.
-pub(crate) const HEADING: usize = 4097;
+pub const HEADING: usize = 4097;
 
 const CELLS: usize = 4098;
 

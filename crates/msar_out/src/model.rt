@@ -85,7 +85,7 @@ fn kind_of(line: &[u8]) -> Option<Kind> {
 
 // A comment, or a blank line. What an earlier fit put in front is left away, and what `start` did.
 fn as_it_stands(rt: &impl Print, line: &[u8]) -> io::Result<()> {
-    if line.starts_with(b"# fit:") || line.starts_with(b"# start:") {
+    if text_words::begins(line, b"# fit:") || text_words::begins(line, b"# start:") {
         return Ok(());
     }
     rt.write_all(line)?;

@@ -1,7 +1,6 @@
 // A message or a row of output, put together piece by piece. What finds no room is left out; the largest message fits.
-ghost use Rattle.std.specs.Prelude.{◌≡◌, [], ◌++◌, take, decimal};
+ghost use Rattle.std.specs.Prelude.{◌≡◌, ◌≤◌, [], ◌++◌, take, decimal};
 
-use arrayvec::ArrayVec;
 use host_io::EprintBytes;
 use itoa::Buffer;
 use std::fmt;
@@ -9,9 +8,12 @@ use std::fmt;
 // Room for a path and a message, and for a model of 16 regimes, of 8,100 bytes.
 const ROOM: usize = 16384;
 
-#[derive(Drop)]
+// The text so far is the first bytes, as many as its length says.
+#[derive(Clone, Copy)]
 pub struct Text {
-    pub bytes: ArrayVec<u8, ROOM>,
+    pub bytes: [u8; ROOM],
+    pub length: usize,
+    pub ghost within: { length ≤ 16384 },
 }
 
 // For `write!`. It is never refused: what finds no room is left out.
@@ -23,30 +25,32 @@ impl fmt::Write for Text {
 }
 
 impl Text {
+    ghost use Rattle.msar_say.specs.SoFar.{bytes_so_far};
+
     pub fn new() -> Self
-        ensures { result.bytes.items ≡ [] }
+        ensures { bytes_so_far result ≡ [] }
     {
         Text {
-            bytes: ArrayVec::new(),
+            bytes: [0; ROOM],
+            length: 0,
         }
     }
 
     pub fn as_slice(&self) -> &[u8]
-        ensures { result.now ≡ self.now.bytes.items }
+        ensures { result.now ≡ bytes_so_far self.now }
     {
-        self.bytes.as_slice()
+        &self.bytes[..self.length]
     }
 
     // As many of the bytes as find room.
     pub fn bytes(&mut self, text: &[u8])
-        ensures { self.new.bytes.items ≡ take 16384 (self.old.bytes.items ++ text.now) }
+        ensures { bytes_so_far self.new ≡ take 16384 (bytes_so_far self.old ++ text.now) }
     {
-        let n = self.bytes.remaining_capacity().min(text.len());
-        let _ = self.bytes.try_extend_from_slice(&text[..n]);
+        self.length = text_words::put(&mut self.bytes, self.length, text);
     }
 
     pub fn whole(&mut self, n: u64)
-        ensures { self.new.bytes.items ≡ take 16384 (self.old.bytes.items ++ decimal n) }
+        ensures { bytes_so_far self.new ≡ take 16384 (bytes_so_far self.old ++ decimal n) }
     {
         let mut digits = Buffer::new();
         self.bytes(digits.format(n).as_bytes());
@@ -116,7 +120,7 @@ fn shown(c: u8) -> u8 {
 // ---- numbers
 
 // For people to read: so many digits, as C's `%g` lays them out. Without a number of digits all 17.
-fn written(x: f64, digits: Option<usize>) -> text_decimal_write::Text {
+fn written(x: f64, digits: Option<usize>) -> text_decimal_write::Written {
     match digits {
         Some(n) => text_decimal_short::short(x, n),
         None => text_decimal_write::write(x),

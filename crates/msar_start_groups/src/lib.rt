@@ -54,15 +54,17 @@ pub fn label_at(labels: &[usize], t: usize) -> usize
     labels[t].min(15)
 }
 
-// How many readings are lower than number t, or equal and earlier. By counting, and no sort.
+// How many readings are lower than number t, or equal and earlier. By counting, and no sort; by adding, since the branch of a
+// `filter` goes either way here, and cost a fifth more.
 fn rank_of(z: &[f64], t: usize) -> usize
     requires { t < length z.now }
 {
     let x = z[t];
-    z.iter()
-        .enumerate()
-        .filter(|(u, v)| (**v < x) | ((**v == x) & (*u < t)))
-        .count()
+    let mut rank = 0usize;
+    for (u, v) in z.iter().enumerate() {
+        rank += usize::from((*v < x) | ((*v == x) & (u < t)));
+    }
+    rank
 }
 
 // How many groups end at or below the rank. The last cut is n, above every rank.

@@ -26,6 +26,7 @@ between_crates M =
       next_label = λ 𝓤 𝓛 mem run κs a g r r' ws ws'. asked 𝓤 (λ h e e'. let s = sym (mod-eq_of_lt h.0) in (one_outcome (e _ s) (e' _ s), refl));
       time_of = λ 𝓤 𝓛 mem run κs a g r r' ws ws'. both 𝓤 (λ e e'. (one_outcome e e', refl));
       sizes_of = λ 𝓤 𝓛 mem run κs a g r r' ws ws'. both_clauses 𝓤 (λ e e'. (same_sizes r r' (one_outcome e.0.0 e'.0.0) (one_outcome e.0.1 e'.0.1) (one_outcome e.1.0 e'.1.0) (one_outcome e.1.1 e'.1.1), refl));
+      sizes_shaped = λ 𝓤 𝓛 mem run κs a g r r' ws ws'. both_clauses 𝓤 (λ e e'. (same_sizes r r' (one_outcome e.0.0 e'.0.0) (one_outcome e.0.1 e'.0.1) (one_outcome e.1.0 e'.1.0) (one_outcome e.1.1 e'.1.1), refl));
       column = λ 𝓤 𝓛 mem run κs a g r r' ws ws'. both 𝓤 (λ e e'. (one_outcome e e', refl));
       said = λ 𝓤 𝓛 mem run κs a g r r' ws ws'. both 𝓤 (λ e e'. (one_outcome e e', refl));
       tidied = λ 𝓤 𝓛 mem run κs a g r r' ws ws'. both 𝓤 (λ e e'. (one_outcome e e', refl));

@@ -17,6 +17,7 @@ use Rattle.window.specs.contracts.successor as window-successor
 use Rattle.window.specs.contracts.next_label as window-next_label
 use Rattle.window.specs.contracts.time_of as window-time_of
 use Rattle.window.specs.contracts.sizes.Sizes.of as window-sizes_of
+use Rattle.window.specs.contracts.sizes.Sizes.shaped as window-sizes_shaped
 use Rattle.refusal.specs.contracts.Refusal.said as refusal-said
 use Rattle.linsolve.specs.contracts.Unsolved.column as linsolve-column
 use Rattle.rows.specs.contracts.smoothed.Smoothed.time_of as rows-time_of
@@ -80,6 +81,7 @@ pub record BetweenCrates (M : Type 1) : Type 2 where
   pub next_label : OneAsked M window-next_label.ended (λ 𝓤 𝓛. window-next_label.clauses 𝓛)
   pub time_of : One M window-time_of.ended (λ 𝓤 𝓛. window-time_of.clauses 𝓛)
   pub sizes_of : One M window-sizes_of.ended (λ 𝓤 𝓛. window-sizes_of.clauses 𝓛)
+  pub sizes_shaped : One M window-sizes_shaped.ended (λ 𝓤 𝓛. window-sizes_shaped.clauses 𝓛)
   -- the column that a refusal names
   pub column : One M linsolve-column.ended (λ 𝓤 𝓛. linsolve-column.clauses 𝓛)
   -- what a refusal says, parameters tidied, the shares of a table; after a refusal there are no parameters, whatever they were made from

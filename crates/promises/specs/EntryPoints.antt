@@ -144,7 +144,7 @@ use Rattle.c_interface.proofs.msar_exp as c-exp-code
 use Rattle.c_interface.specs.contracts.msar_lnpdf as c-lnpdf
 use Rattle.c_interface.proofs.msar_lnpdf as c-lnpdf-code
 use Rattle.promises.specs.Promised.{OutcomeOf, EntryPoint}
-use Rattle.promises.specs.Types.{fn, value, table, reals, reals_mut, bytes, real_array, real_array_mut, whole_array, whole_array_mut, model, made, refusable, Check, Refusal, MsarSpec, Solution, MsarParams, Sixteen, Bound, Fitted, NumberOrPlace, Text}
+use Rattle.promises.specs.Types.{fn, value, table, reals, reals_mut, bytes, real_array, real_array_mut, whole_array, whole_array_mut, model, made, refusable, Check, Refusal, MsarSpec, Solution, MsarParams, Sixteen, Bound, Fitted, NumberOrPlace, Written}
 
 -- Below, `fn n parameters result` is a function's type (Types.antt), with the references numbered from 0. Its arguments are a tuple in the order of its
 -- parameters, and `now x` is what a reference x refers to at entry. An outcome is the result beside a tuple of the same order: what each parameter
@@ -500,7 +500,7 @@ abbrev pub read_outcome : OutcomeOf read_type
 read_outcome κs (text, _) = (read_of text.now, (tt, tt))
 
 abbrev pub write_type : Ended
-write_type = fn 0 (value f64 ∷ []) (value Text)
+write_type = fn 0 (value f64 ∷ []) (value Written)
 
 abbrev pub write_outcome : OutcomeOf write_type
 write_outcome κs (x, _) = (written_of x, (tt, tt))

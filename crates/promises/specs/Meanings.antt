@@ -1,7 +1,7 @@
 -- What is proved of the definitions themselves, so that a reader has to believe less of them: that the root is the nearest number, that a number comes
 -- back from its decimal, that parameters once built pass again, which column the solver names, and demand 1's "A fit runs at most max_iter passes".
 -- After documents 00, 01 and 02.
-use Rattle.std.specs.Prelude.{◌≡◌, List, false, ℕ, ◌^◌, ◌≤◌, T, Float, Ok, Err}
+use Rattle.std.specs.Prelude.{◌≡◌, List, false, ℕ, ◌^◌, ◌≤◌, T, take, Float, Ok, Err}
 use Rattle.std.specs.Float.{binary64}
 use Rattle.std.specs.Float.Ieee.{fits}
 use Rattle.std.specs.Float.Ieee.Exact.{HasValue}
@@ -25,7 +25,7 @@ pub record Meanings : Type 0 where
   pub root_is : (x : Float) → T (fits binary64 x) → IsRoot x (root_of x)
   pub root_alone : (x r r' : Float) → T (fits binary64 x) → T (fits binary64 r) → T (fits binary64 r') → IsRoot x r → IsRoot x r' → r ≡ r'
   -- reading the bytes that were written of x gives x
-  pub round_trip : (x : Float) → T (fits binary64 x) → read_of (written_of x).items ≡ Ok x
+  pub round_trip : (x : Float) → T (fits binary64 x) → read_of (take (written_of x).length (written_of x).bytes) ≡ Ok x
   -- a record that was built passes the checks again
   pub built_again : (q built : MsarParams) → built_of q ≡ Ok built → parameter_check built ≡ Passed
   -- the column that the solver names is the first whose pivot has a magnitude below 1e-300, and where there is one it is named

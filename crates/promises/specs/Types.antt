@@ -4,7 +4,6 @@ use Rattle.std.specs.Prelude.{ℕ, List, []}
 use contract.Lifetimes.{Within}
 use denote.Builtin.{unit, f64, usize, u8, SliceRef, SliceRefMut, Ref, RefMut, Array}
 use denote.Exit.{yes}
-use denote.Param.{number}
 use Rattle.std.specs.Borrow.{RattleType}
 use denote.Signature.{Slot, plain, named_lft}
 use denote.Triple.Clauses.{Ended}
@@ -18,7 +17,7 @@ use Rattle.binding.specs.contracts.Bound as binding-Bound
 use Rattle.fit.specs.contracts.Fitted as fit-Fitted
 use Rattle.record.specs.contracts.MarkovSwitchingAr as markov-MarkovSwitchingAr
 use Rattle.record.specs.contracts.Made as record-Made
-use Rattle.arrayvec.specs.contracts.array_vec.ArrayVec as arrayvec-ArrayVec
+use Rattle.text_decimal_write.specs.contracts.Written as decimal-Written
 
 -- a function with n lifetimes, these parameters and this result
 abbrev pub fn : (n : ℕ) → List (Slot n) → Slot n → Ended
@@ -98,9 +97,9 @@ Bound = binding-Bound.the_row
 abbrev pub Fitted : RattleType
 Fitted = fit-Fitted.the_row
 
--- Result<f64, usize> and ArrayVec<u8, 32>
+-- Result<f64, usize>
 abbrev pub NumberOrPlace : RattleType
 NumberOrPlace = std-Result.the_row f64 usize
 
-abbrev pub Text : RattleType
-Text = arrayvec-ArrayVec.the_row u8 (number 32) unit
+abbrev pub Written : RattleType
+Written = decimal-Written.the_row

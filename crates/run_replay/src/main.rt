@@ -216,20 +216,20 @@ fn decimal(rt: &impl Print, n: usize, end: u8) {
     host_io::write_all(rt, &[end]);
 }
 
-// A refused answer has zeros for its numbers, and an answer for its refusal.
+// The answer as C is told a fit's: each place is written, beside a refusal too.
+fn spelled(answer: &Result<Fitted, Refusal>) -> ([usize; 4], [f64; 2]) {
+    let mut whole = [9; 4];
+    let mut real = [9.0; 2];
+    c_layout::told::spell_fit(answer, &mut whole, &mut real);
+    (whole, real)
+}
+
 fn show_answer(rt: &impl Print, answer: &Result<Fitted, Refusal>) {
-    let (number, place, value) = match answer {
-        Ok(_) => (0, 0, 0),
-        Err(r) => words(*r),
-    };
-    decimal(rt, number, b' ');
-    decimal(rt, place, b' ');
-    run_hex::write(rt, value, b' ');
-    let loglik = match answer {
-        Ok(a) => a.loglik,
-        Err(_) => 0.0,
-    };
-    run_hex::write(rt, number::pattern(loglik), b'\n');
+    let (whole, real) = spelled(answer);
+    decimal(rt, whole[0], b' ');
+    decimal(rt, whole[1], b' ');
+    run_hex::write(rt, number::pattern(real[0]), b' ');
+    run_hex::write(rt, number::pattern(real[1]), b'\n');
 }
 
 // How many numbers are not `blank`.
@@ -277,14 +277,11 @@ fn show_params(rt: &impl Print, q: &MsarParams) {
     decimal(rt, transition + means + ar + variances, b'\n');
 }
 
-// What a fit has behind the first line. A refused one has neither passes nor parameters, and zeros for both.
+// What a fit has behind the first line. A refused one has no parameters, so no place of theirs that is not +0.
 fn show_fit(rt: &impl Print, o: &Outcome) {
-    let (iterations, converged) = match &o.answer {
-        Ok(a) => (a.iterations, a.converged as usize),
-        Err(_) => (0, 0),
-    };
-    decimal(rt, iterations, b' ');
-    decimal(rt, converged, b'\n');
+    let (whole, _) = spelled(&o.answer);
+    decimal(rt, whole[2], b' ');
+    decimal(rt, whole[3], b'\n');
     show_work(rt, &o.work);
     show_table(rt, &o.smoothed);
     match &o.answer {
@@ -413,6 +410,10 @@ fn answer(rt: &impl Print, c: &Given, series: &[f64]) {
 // Answers the case of this call; None where it is none that the program takes. A series may have one reading more than a call
 // takes.
 fn case(rt: &(impl Print + Input), number: u64) -> Option<()> {
+    // another number is answered at once, though more may never come
+    if !matches!(number, 1..=4) {
+        return None;
+    }
     let spec = read_spec(rt)?;
     let lent = read_lent(rt)?;
     let readings = whole(rt)?;

@@ -3,6 +3,8 @@ use mathlib.Core.Path.{◌≡◌, refl, sym, ap, ◌∙◌, subst}
 use mathlib.Core.Bool.{Bool, true, false, not, cond}
 use mathlib.Core.Logic.{inl, inr}
 use mathlib.Core.List.{[], ◌∷◌, ◌++◌}
+use lib.ListN.{length, take, replicate}
+use lib.Seq.{take-append_seam}
 use Prim.Native.Nat.{ℕ, suc, ◌+◌, ◌-◌, ◌*◌, ◌/◌, ◌%◌, ◌^◌, ◌≤◌, ◌<◌, compare}
 use native.Mathlib.Nat.{le_trans, le_of_lt, mul_assoc, div-lt_iff_lt-mul, le-div_iff_mul-le, eq-zero-or-pos, eq-or-lt_of_le, mul-div_cancel}
 use native.Mathlib.Omega.{arith}
@@ -24,7 +26,7 @@ use Rattle.text_decimal_write.specs.declared.Decimal.{Decimal}
 use Rattle.text_decimal_grammar.specs.declared.State.{State}
 use Rattle.text_decimal_grammar.specs.Grammar.{nothing, step, step_at, digit_of, moved, minus, whole_digit, fraction_digit, exponent_digit, mark, after_sign, at_start, in_whole, after_zero, in_fraction, in_exponent, after_mark, in_word}
 use Rattle.text_decimal_read.specs.Text.{number_of, read_of, scan, finish_at}
-use Rattle.text_decimal_write.specs.Decimals.{over, under, tens, decimal_of, units_decimal, digits_text, exponent_text, decimal_text, units_text, sign_text, text_of, written_of}
+use Rattle.text_decimal_write.specs.Decimals.{over, under, tens, decimal_of, units_decimal, digits_text, exponent_text, decimal_text, units_text, sign_text, text_of, written, written_of}
 use Rattle.text_decimal_write.specs.Room.{guess_of}
 use Rattle.text_limbs.proofs.Tens.{ten_pos}
 use Rattle.text_decimal_write.proofs.First.{under_pos, reach_next, tens_are, Guessed, guessed}
@@ -163,6 +165,6 @@ round_trip (fin s m e) f =
     ∙ units_back (fin s m e) s m p.place (m * 2 ^ p.place) f (refl, v) refl p.digits p.under
 
 -- the same of the bytes that `write` hands over
-pub written_back : (x : Float) → T (fits binary64 x) → read_of (written_of x).items ≡ Ok x
-unfolding written_of
-written_back x f = round_trip x f
+pub written_back : (x : Float) → T (fits binary64 x) → read_of (take (written_of x).length (written_of x).bytes) ≡ Ok x
+unfolding written_of written
+written_back x f = ap read_of (take-append_seam (text_of x) (replicate (32 - length (text_of x)) 0)) ∙ round_trip x f

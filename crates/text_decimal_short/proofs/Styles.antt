@@ -10,7 +10,8 @@ use Rattle.rounding.proofs.Choose.{le_or_lt}
 use Rattle.text_decimal_write.specs.declared.Decimal.{Decimal}
 use Rattle.text_decimal_write.specs.Decimals.{digits_text, sign_text}
 use Rattle.std.specs.Int.{abs_diff}
-use Rattle.std.proofs.Common.{max}
+use Rattle.std.proofs.Common.{max, min}
+use Rattle.std.proofs.lemmas.Grind.{common_steps}
 use Rattle.text_decimal_write.specs.Room.{exponent_digits, opening, finite_decimal, laid}
 use Rattle.std.proofs.Common.{Option, Some, None}
 use lib.Ieee.{Float, nan, inf, fin}
@@ -111,6 +112,11 @@ unfolding opening finite_decimal short_text short_units
 text_joined n nan = refl
 text_joined n (inf s) = append-nil (sign_text s ++ 105 ∷ 110 ∷ 102 ∷ [])
 text_joined n (fin s m e) = refl
+
+-- the count of digits that `clamp` gives
+pub allowed_is : (m n : ℕ) → m ≡ max 1 (min n 17) → m ≡ allowed n
+unfolding allowed
+allowed_is m n e = grind (arith, common_steps)
 
 pub text_some : (m n : ℕ) (x : Float) (d : Decimal) → m ≡ allowed n → finite_decimal x ≡ Some d → opening x ++ laid_out m (rounded_to m d) ≡ short_text (allowed n) x
 text_some m n x d a e =

@@ -8,7 +8,7 @@ use Rattle.std.specs.Float.Ieee.Nearest.{closest}
 use Rattle.number.specs.Number.{◌<?◌, ◌=?◌}
 use Rattle.rounding.specs.Units.{in_units}
 use Rattle.text_decimal_write.specs.declared.Decimal.{Decimal}
-use Rattle.arrayvec.specs.ArrayVec.{ArrayVec}
+use Rattle.text_decimal_write.specs.declared.Written.{Written}
 use Rattle.text_decimal_write.specs.Decimals.{units_decimal, digits_text, sign_text, written}
 
 -- ---- the digits. The first digit of a decimal, of 17 digits or of n, has the weight 10 ^ (tens - 324); C's X is tens - 324, its P is n.
@@ -81,6 +81,6 @@ short_text n (fin s m e) = sign_text s ++ short_units n (in_units binary64 (fin 
 unfoldable pub allowed : ℕ → ℕ
 allowed n = if n <? 1 then 1 else (if 17 <? n then 17 else n)
 
-unfoldable pub short_of : Float → ℕ → ArrayVec ℕ
+unfoldable pub short_of : Float → ℕ → Written
 unfolding allowed short_text
 short_of x n = written (short_text (allowed n) x)

@@ -6,7 +6,7 @@ ghost use Rattle.std.specs.Float.Ieee.Nearest.{closest};
 ghost use Rattle.arrayvec.specs.ArrayVec.{array_vec_len};
 ghost use Rattle.text_decimal_short.specs.Short.{rounded_to, fraction_text, pointed_text, exponent_text, scientific, laid_out, short_of};
 
-use text_decimal_write::{Decimal, Text};
+use text_decimal_write::{Decimal, Text, Written};
 
 // ---- the digits
 
@@ -110,8 +110,8 @@ fn push_laid_out(text: &mut Text, d: Decimal, n: usize)
 // ---- the number
 
 // The text of a number for people to read: at most n significant digits, n from 1 to 17.
-#[tactic(auto, using(crate::proofs::Styles::text_some, crate::proofs::Styles::text_none), unfolding(crate::specs::Short::short_of, crate::specs::Short::allowed))]
-pub fn short(x: f64, n: usize) -> Text
+#[tactic(auto, using(crate::proofs::Styles::allowed_is, crate::proofs::Styles::text_some, crate::proofs::Styles::text_none), unfolding(crate::specs::Short::short_of))]
+pub fn short(x: f64, n: usize) -> Written
     ensures { result ≡ short_of x n }
 {
     let n = n.clamp(1, 17);
@@ -119,5 +119,5 @@ pub fn short(x: f64, n: usize) -> Text
     if let Some(d) = decimal {
         push_laid_out(&mut text, rounded(d, n), n);
     }
-    text
+    Written::of(&text)
 }

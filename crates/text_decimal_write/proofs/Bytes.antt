@@ -6,6 +6,8 @@ use native.Mathlib.Nat.{div-div-eq-div-mul}
 use native.Mathlib.Omega.{arith}
 use lib.Pow.{pow-add}
 use borrow.Author.Tests.{lt-ltb, le-ltb}
+use lib.ListN.{length, drop, replicate}
+use Rattle.std.proofs.lemmas.List.{drop-replicate}
 use Rattle.text_decimal_write.specs.declared.Decimal.{Decimal}
 use Rattle.text_decimal_write.specs.Decimals.{digits_text, exponent_text, decimal_text}
 use Rattle.text_decimal_write.specs.Room.{exponent_digits}
@@ -56,3 +58,8 @@ decimal_joined t d = go t (digits_text 1 (d.digits / 10 ^ 16)) (digits_text 16 (
   where
     go : (t a b c : List ℕ) → (((t ++ a) ++ 46 ∷ []) ++ b) ++ c ≡ t ++ (a ++ 46 ∷ b ++ c)
     go t a b c = simp append_assoc
+
+-- ---- zeros behind a text
+
+pub zeros_behind : (k : ℕ) (t u : List ℕ) → k ≡ length t → u ≡ t → u ++ drop k (replicate 32 0) ≡ t ++ replicate (32 - length t) 0
+zeros_behind k t u e f = rw (e, f, drop-replicate {X = ℕ} (length t) 32 0)

@@ -2,13 +2,13 @@
 -- sign is set, a zero's too; one digit before the point and 16 after it; the exponent's sign, always, and three digits of it. And `inf`,
 -- `-inf`, `nan`.
 -- The nearest is by the exact distance. A tie, where a number lies halfway between two decimals of 17 digits, goes to the even last digit.
-use Rattle.std.specs.Prelude.{ℕ, zero, suc, ◌+◌, ◌-◌, ◌*◌, ◌/◌, ◌%◌, ◌^◌, Bool, true, false, List, [], ◌∷◌, ◌++◌, Float, if◌then◌else◌}
+use Rattle.std.specs.Prelude.{ℕ, zero, suc, ◌+◌, ◌-◌, ◌*◌, ◌/◌, ◌%◌, ◌^◌, Bool, true, false, List, [], ◌∷◌, ◌++◌, length, replicate, Float, if◌then◌else◌}
 use Rattle.std.specs.Float.{nan, inf, fin, binary64}
 use Rattle.std.specs.Float.Ieee.Nearest.{closest}
 use Rattle.number.specs.Number.{◌<?◌, ◌≤?◌, ◌=?◌}
 use Rattle.rounding.specs.Units.{in_units}
 use Rattle.text_decimal_write.specs.declared.Decimal.{Decimal}
-use Rattle.arrayvec.specs.ArrayVec.{ArrayVec}
+use Rattle.text_decimal_write.specs.declared.Written.{Written}
 
 -- ---- the decimal, of a number of u units of 2 ^ -1074, u above zero
 
@@ -75,11 +75,11 @@ text_of nan = 110 ∷ 97 ∷ 110 ∷ []
 text_of (inf s) = sign_text s ++ 105 ∷ 110 ∷ 102 ∷ []
 text_of (fin s m e) = sign_text s ++ units_text (in_units binary64 (fin s m e))
 
--- ---- what is handed over: a buffer that holds the text
+-- ---- 32 bytes, the first of which are the text
 
-abbrev pub written : List ℕ → ArrayVec ℕ
-written t = record { items = t }
+unfoldable pub written : List ℕ → Written
+written t = record { bytes = t ++ replicate (32 - length t) 0; length = length t }
 
-unfoldable pub written_of : Float → ArrayVec ℕ
-unfolding text_of
+unfoldable pub written_of : Float → Written
+unfolding written text_of
 written_of x = written (text_of x)

@@ -1,7 +1,7 @@
 // The decimal of 17 digits nearest to an f64, and its text.
 #![tactic(auto)]
 
-ghost use Rattle.std.specs.Prelude.{◌≡◌, ◌++◌, ℕ, ◌+◌, ◌-◌, ◌*◌, ◌/◌, ◌%◌, ◌≤◌, ◌<◌, ◌^◌, IfSome};
+ghost use Rattle.std.specs.Prelude.{◌≡◌, ◌++◌, ℕ, ◌+◌, ◌-◌, ◌*◌, ◌/◌, ◌%◌, ◌≤◌, ◌<◌, ◌^◌, take, IfSome};
 ghost use Rattle.std.specs.Float.Ieee.Nearest.{closest};
 ghost use Rattle.text_limbs.specs.Remains.{CutBy};
 ghost use Rattle.text_limbs.specs.Limbs.{value};
@@ -21,6 +21,33 @@ pub struct Decimal {
 
 // A text of at most 32 bytes
 pub type Text = ArrayVec<u8, 32>;
+
+// The first `length` bytes are the text, and zeros stand behind it.
+#[derive(Clone, Copy)]
+pub struct Written {
+    pub bytes: [u8; 32],
+    pub length: usize,
+}
+
+impl Written {
+    // A text that is put together
+    #[tactic(auto, using(crate::proofs::Bytes::zeros_behind), unfolding(crate::specs::Decimals::written))]
+    pub fn of(text: &Text) -> Written
+        ensures { result ≡ written text.now.items }
+    {
+        let length = text.len();
+        let mut bytes = [0u8; 32];
+        bytes[..length].copy_from_slice(text.as_slice());
+        Written { bytes, length }
+    }
+
+    // The text alone
+    pub fn as_slice(&self) -> &[u8]
+        ensures { result.now ≡ take self.now.length self.now.bytes }
+    {
+        &self.bytes[..self.length.min(32)]
+    }
+}
 
 // For a number of z binary digits: its tens, or one less.
 fn guess(z: usize) -> usize
@@ -151,7 +178,7 @@ fn push_decimal(text: &mut Text, d: Decimal)
 // Of a number's text `nan`, or the sign, and `inf`; and the decimal that is to come where it is finite.
 #[tactic(auto, using(crate::proofs::Magnitudes::opening_nan, crate::proofs::Magnitudes::opening_inf, crate::proofs::Magnitudes::opening_finite))]
 pub fn opening(x: f64) -> (Text, Option<Decimal>)
-    ensures text { result.0 ≡ written (opening x) }
+    ensures text { result.0.items ≡ opening x }
     ensures decimal { result.1 ≡ finite_decimal x }
     ensures tens { IfSome result.1 (λ d. d.tens < 1000) }
     ensures room { IfSome result.1 (λ d. array_vec_len result.0 ≤ 1) }
@@ -175,12 +202,12 @@ pub fn opening(x: f64) -> (Text, Option<Decimal>)
 
 // The text of a number: 17 digits, or `inf`, `-inf`, `nan`.
 #[tactic(auto, using(crate::proofs::Magnitudes::text_some, crate::proofs::Magnitudes::text_none), unfolding(crate::specs::Decimals::written_of))]
-pub fn write(x: f64) -> Text
+pub fn write(x: f64) -> Written
     ensures { result ≡ written_of x }
 {
     let (mut text, decimal) = opening(x);
     if let Some(d) = decimal {
         push_decimal(&mut text, d);
     }
-    text
+    Written::of(&text)
 }

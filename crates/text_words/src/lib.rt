@@ -2,7 +2,7 @@
 // Places in a line count from 0.
 #![tactic(auto)]
 
-ghost use Rattle.std.specs.Prelude.{◌≡◌, ◌<◌, ◌≤◌, length, take_while, IfSome};
+ghost use Rattle.std.specs.Prelude.{◌≡◌, ◌<◌, ◌≤◌, ◌++◌, length, take, drop, take_while, IfSome};
 ghost use Rattle.text_words.specs.Words.{is_blank, in_word, past, word_from};
 ghost use Rattle.text_words.specs.Places.{Leads};
 
@@ -132,12 +132,12 @@ fn cell_end(line: &[u8], from: usize, separator: u8) -> usize
     ensures { (from ≤ result) × (result ≤ length line.now) }
 {
     let mut quoted = false;
-    for (i, c) in line.iter().enumerate().skip(from) {
+    for (i, c) in line[from..].iter().enumerate() {
         if *c == b'"' {
             quoted = !quoted;
         }
         if (*c == separator) & !quoted {
-            return i;
+            return from + i;
         }
     }
     line.len()
@@ -261,10 +261,12 @@ pub fn whole(text: &[u8]) -> Option<usize>
 // Puts the text behind the first `at` bytes, as far as there is room, and says how many bytes there are then.
 // Its place goes in and out by hand: a public function, which docs/CONTRACTS.md names.
 pub fn put(out: &mut [u8], at: usize, text: &[u8]) -> usize
-    ensures { Leads result out.new }
+    ensures leads { Leads result out.new }
+    ensures so_far { take result out.new ≡ take (length out.old) (take at out.old ++ text.now) }
+    ensures behind { drop result out.new ≡ drop result out.old }
 {
-    let from = least(at, out.len());
-    let n = least(text.len(), out.len() - from);
+    let from = at.min(out.len());
+    let n = (out.len() - from).min(text.len());
     out[from..from + n].copy_from_slice(&text[..n]);
     from + n
 }

@@ -30,4 +30,17 @@ impl Sizes {
             windows,
         }
     }
+
+    // From the shape alone: the windows are counted here, k for the label now and once more for each lag.
+    pub fn shaped(k: usize, order: usize) -> Sizes
+        requires { Shape k order }
+        ensures counts { (result.k ≡ k) × (result.order ≡ order) }
+        ensures powers { (result.power ≡ k ^ order) × (result.windows ≡ k ^ suc order) }
+    {
+        let mut windows = k;
+        for _ in 0..order {
+            windows = windows * k;
+        }
+        Sizes::of(k, order, windows)
+    }
 }

@@ -1,8 +1,9 @@
--- As many bytes as find room.
-use Rattle.msar_say.proofs.Room.{as_fits}
+-- The buffer has 16,384 bytes.
+use Rattle.std.proofs.Common.{arith, ap, ℕ, ◌≡◌, ◌++◌, length, take, ◌∙◌}
+use Rattle.msar_say.specs.SoFar.{bytes_so_far}
 use Rattle.msar_say.proofs.put.Text.bytes.Goals as goal
 
 pub returns : goal.returns
 returns c =
-    let r = c.try_extend_from_slice in
-    as_fits r.result _ _ _ c.remaining_capacity.result 16384 c.min-n.result c.remaining_capacity.ensures c.min-n.ensures r.ensures.variant.1 r.ensures.ok
+    let room : length c.args.self.now.bytes ≡ 16384 = omega arith in
+    c.put-self.ensures.so_far ∙ ap (λ (i : ℕ). take i (bytes_so_far c.args.self.now ++ c.args.text.now)) room

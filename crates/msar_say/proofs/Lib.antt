@@ -1,2 +1,0 @@
--- bytes put behind a text, as many as find room
-pub mod Room

@@ -1,0 +1,2 @@
+-- a text put behind the bytes before a place
+pub mod Joined
